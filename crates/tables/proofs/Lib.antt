@@ -1,0 +1,2 @@
+mod Header
+mod Steps

@@ -1,0 +1,6 @@
+pub mod Kinds
+pub mod Layout
+pub mod Numbers
+pub mod Places
+pub mod Reading
+pub mod Rows
