@@ -80,3 +80,10 @@ pub struct Fault<R> {
     pub table: Table,
     pub row: usize,
 }
+
+/// A row of a table.
+#[derive(Clone, Copy)]
+pub struct Place {
+    pub table: Table,
+    pub row: usize,
+}

@@ -1,0 +1,6 @@
+//! The rules that the tables of a model keep, and the model that is read once they hold.
+pub mod holders;
+pub mod index;
+pub mod range;
+pub mod search;
+pub mod uses;

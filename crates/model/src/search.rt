@@ -1,0 +1,23 @@
+ghost use mathlib.Core.Bool.{Bool};
+ghost use mathlib.Core.Path.{_≡_};
+ghost use Rattle.model.specs.Words.{some};
+
+/// A test of rows.
+pub trait Test<R> {
+    ghost holds: { Self → R → Bool };
+
+    fn holds(&self, row: R) -> bool
+        ensures value { λ r. ⌜ r ≡ holds (now (self .entry)) row ⌝ };
+}
+
+/// Whether one of the rows passes the test.
+pub fn any<R: Copy, T: Test<R>>(rows: &[R], test: &T) -> bool
+    ensures some { λ r. ⌜ r ≡ some (T·Test .holds (now (test .entry))) (now (rows .entry)) ⌝ }
+{
+    for row in rows {
+        if test.holds(*row) {
+            return true;
+        }
+    }
+    false
+}
