@@ -1,16 +1,18 @@
 -- One step of a walk along rows, and a row that was read by its place.
-use mathlib.Core.Path.{_≡_, refl, sym}
+use mathlib.Core.Path.{_≡_, refl, sym, _∙_}
 use mathlib.Core.Bool.{Bool, true, false, _||_}
 use mathlib.Core.List.{List, [], _∷_}
 use mathlib.Core.Logic.{inl, inr}
 use Prim.Native.Nat.{ℕ, zero, suc, _+_, _-_, _≤_, _<_, min}
 use native.Mathlib.Numerals.{add-one}
 use native.Mathlib.Omega.{arith}
-use lib.ListN.{length, getD, take, drop, drop-of-length-le}
-use Rattle.std.proofs.shelf.Lists.{take-rest, drop-all}
+use lib.ListN.{length, getD, take, drop, drop-of-length-le, length-drop}
+use Rattle.std.proofs.shelf.Lists.{take-rest, take-all, drop-all, nil-from-length}
 use Rattle.std.proofs.shelf.Tests.{cases-lt}
 use lib.Seq.{drop-cons}
-use Rattle.model.specs.Words.{at, some}
+use lib.Dec.{eqb}
+use Rattle.model.specs.Placement.{repeated}
+use Rattle.model.specs.Words.{at, some, part}
 
 -- the list behind a place, at a row that was read there
 pub behind : {A : Type 0} (xs : List A) (i : ℕ) (x : A) → i < length xs → x ≡ getD xs i x → drop i xs ≡ x ∷ drop (i + 1) xs
@@ -40,3 +42,39 @@ tail-clamped xs i k e =
       | inl lt ↦ (let h : k ≡ i = omega arith in rw (take-rest xs k, h))
       | inr ge ↦ (let h : length xs ≤ k = omega arith in rw (take-rest xs k, drop-all k xs h, drop-all i xs ge))
     ]
+
+take-clamped : {A : Type 0} (ys : List A) (n k : ℕ) → k ≡ min n (length ys) → take k ys ≡ take n ys
+take-clamped ys n k e =
+    elim (cases-lt n (length ys)) [
+      | inl lt ↦ (let h : k ≡ n = omega arith in rw h)
+      | inr ge ↦ (let h : length ys ≤ k = omega arith in rw (take-all k ys h, take-all n ys ge))
+    ]
+
+-- `&xs[start..end]` of a range that the length cuts off
+pub part-clamped : {A : Type 0} (xs : List A) (first count start k : ℕ) → start ≡ min first (length xs) → k ≡ min count (length xs - start) →
+    take ((start + k) - start) (drop start xs) ≡ part first count xs
+part-clamped xs first count start k s e =
+    let left : drop start xs ≡ drop first xs = sym (take-rest xs start) ∙ tail-clamped xs first start s in
+    let n : (start + k) - start ≡ k = omega arith in
+    let l : k ≡ min count (length (drop first xs)) = rw (← left) (simp length-drop e) in
+    rw (n, left) (take-clamped (drop first xs) count k l)
+
+-- the first of some numbers against the others
+module _ (xs all : List ℕ) (inv : repeated xs ≡ repeated all) where
+  cut : 1 ≤ length xs → (some (λ y. eqb y (getD xs 0 0)) (take (length xs - 1) (drop 1 xs)) || repeated (take (length xs - 1) (drop 1 xs))) ≡ repeated all
+  cut = go xs inv
+    where
+      go : (ys : List ℕ) → repeated ys ≡ repeated all → 1 ≤ length ys →
+          (some (λ y. eqb y (getD ys 0 0)) (take (length ys - 1) (drop 1 ys)) || repeated (take (length ys - 1) (drop 1 ys))) ≡ repeated all
+      go [] e h = absurd (omega arith)
+      go (y ∷ ys) e h = rw (take-rest (y ∷ ys) 1) e
+
+  pub repeated-here : 1 ≤ length xs → true ≡ some (λ y. eqb y (getD xs 0 0)) (take (length xs - 1) (drop 1 xs)) → true ≡ repeated all
+  repeated-here h hit = rw (← hit) at (cut h)
+
+  pub repeated-later : 1 ≤ length xs → false ≡ some (λ y. eqb y (getD xs 0 0)) (take (length xs - 1) (drop 1 xs)) →
+      repeated (take (length xs - 1) (drop 1 xs)) ≡ repeated all
+  repeated-later h miss = rw (← miss) at (cut h)
+
+  pub repeated-none : length xs ≤ 0 → false ≡ repeated all
+  repeated-none h = rw (nil-from-length xs (omega arith)) at inv

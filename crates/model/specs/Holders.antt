@@ -102,18 +102,18 @@ abbrev pub claimStatements : Holders → ℕ → MethodRow → Holders
 claimStatements held r x = claimRange (place Methods r) held (x .«statements_first») (extent (x .«statements_first») (x .«statements_count») held)
 
 -- The users of the nodes, in the order functions, nodes, branches, statements.
-abbrev pub nodeUsers : Content → Holders
+unfoldable pub nodeUsers : Content → Holders
 nodeUsers m =
     let functions : Holders = claimRows (claimUses Functions functionUses) (nobody (m .nodes)) 0 (m .functions) in
     let nodes : Holders = claimRows (claimUses Nodes nodeUses) functions 0 (m .nodes) in
     let branches : Holders = claimRows (claimUses Branches branchUses) nodes 0 (m .branches) in
     claimRows (claimUses Statements statementUses) branches 0 (m .statements)
 
-abbrev pub branchCases : Content → Holders
+unfoldable pub branchCases : Content → Holders
 branchCases m = claimRows (claimBranches (m .branches)) (nobody (m .branches)) 0 (m .nodes)
 
-abbrev pub methodClasses : Content → Holders
+unfoldable pub methodClasses : Content → Holders
 methodClasses m = claimRows claimMethods (nobody (m .methods)) 0 (m .classes)
 
-abbrev pub statementMethods : Content → Holders
+unfoldable pub statementMethods : Content → Holders
 statementMethods m = claimRows claimStatements (nobody (m .statements)) 0 (m .methods)

@@ -1,6 +1,6 @@
 ghost use mathlib.Core.Bool.{Bool};
 ghost use mathlib.Core.Path.{_≡_};
-ghost use Rattle.model.specs.Words.{some};
+ghost use Rattle.model.specs.Words.{some, part};
 
 /// A test of rows.
 pub trait Test<R> {
@@ -20,4 +20,13 @@ pub fn any<R: Copy, T: Test<R>>(rows: &[R], test: &T) -> bool
         }
     }
     false
+}
+
+/// The rows of a range, as many as there are.
+pub fn part<T>(rows: &[T], first: usize, count: usize) -> &[T]
+    ensures part { λ r. ⌜ now r ≡ part first count (now (rows .entry)) ⌝ }
+{
+    let start = first.min(rows.len());
+    let end = start + count.min(rows.len() - start);
+    &rows[start..end]
 }
