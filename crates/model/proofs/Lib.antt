@@ -1,3 +1,4 @@
 mod Claims
 mod Columns
+mod SameTypes
 mod Walks

@@ -35,6 +35,11 @@ at-read [] i x p lt e = absurd (omega arith)
 at-read (y ∷ xs) zero x p lt e = rw e
 at-read (y ∷ xs) (suc i) x p lt e = at-read xs i x p (omega arith) e
 
+pub at-past : {A : Type 0} (xs : List A) (i : ℕ) (p : A → Bool) → length xs ≤ i → at xs i p ≡ false
+at-past [] i p le = refl
+at-past (y ∷ xs) zero p le = absurd (omega arith)
+at-past (y ∷ xs) (suc i) p le = at-past xs i p (omega arith)
+
 -- `&xs[k..]` from a row that the length cuts off
 pub tail-clamped : {A : Type 0} (xs : List A) (i k : ℕ) → k ≡ min i (length xs) → take (length xs - k) (drop k xs) ≡ drop i xs
 tail-clamped xs i k e =

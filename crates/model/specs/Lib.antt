@@ -1,6 +1,9 @@
 pub mod Holders
 pub mod Index
+pub mod Methods
 pub mod Placement
 pub mod Range
+pub mod Shape
+pub mod Types
 pub mod Uses
 pub mod Words

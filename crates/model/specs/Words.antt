@@ -1,7 +1,7 @@
 -- Words that every rule may use: rows and ranges of a table, and tests of its rows.
 use mathlib.Core.Bool.{Bool, true, false, _||_}
 use mathlib.Core.List.{List, [], _∷_}
-use Prim.Native.Nat.{ℕ, zero, suc, _+_}
+use Prim.Native.Nat.{ℕ, zero, suc, _+_, _-_}
 use lib.Dec.{leb, ltb}
 use lib.ListN.{length, take, drop}
 
@@ -30,4 +30,4 @@ part first count xs = take count (drop first xs)
 
 -- the rows from `first` up to `end`
 abbrev pub between : {A : Type 0} → ℕ → ℕ → List A → List A
-between first end xs = drop first (take end xs)
+between first end xs = part first (end - first) xs

@@ -1,7 +1,10 @@
 //! The rules that the tables of a model keep, and the model that is read once they hold.
 pub mod holders;
 pub mod index;
+pub mod methods;
 pub mod placement;
 pub mod range;
 pub mod search;
+pub mod shape;
+pub mod types;
 pub mod uses;

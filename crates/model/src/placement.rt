@@ -11,13 +11,10 @@ ghost use Rattle.std.specs.declared.option.Option.the-variants.{None};
 ghost use Rattle.tables.specs.Layout.{content};
 ghost use Rattle.model.specs.Index.{Indexes};
 ghost use Rattle.model.specs.Uses.{branchUses};
-ghost use Rattle.model.specs.Words.{some};
 ghost use Rattle.model.specs.Holders.{reach, nodeUsers, branchCases};
 ghost use Rattle.model.specs.Placement.{typePlacement, elsewhere, repeated, reused, overlaps, functionPlacement, classPlacement, methodPlacement, nodePlacement, aboveCase, branchPlacement, statementPlacement};
 use crate::holders::reached;
 use crate::index::Index;
-use crate::range::FromRow;
-use crate::range::FromRowTest;
 use crate::search::Test;
 use crate::search::any;
 use crate::search::part;
@@ -26,6 +23,7 @@ use crate::uses::FunctionUser;
 use crate::uses::NodeUser;
 use crate::uses::StatementUser;
 use crate::uses::User;
+use crate::uses::uses_from;
 use tables::kinds::TypeKind;
 use tables::place::Place;
 use tables::place::Table;
@@ -115,13 +113,6 @@ fn overlaps(held: &[Option<Place>], by: Place, first: u16, count: usize) -> bool
     ensures overlaps { λ r. ⌜ r ≡ overlaps (now (held .entry)) by first count ⌝ }
 {
     any(part(held, first as usize, count), &Elsewhere(by))
-}
-
-/// Whether the row uses a node that does not stand lower than this one.
-fn uses_from<U: User>(row: usize, x: U) -> bool
-    ensures above { λ r. ⌜ r ≡ some (leb row) (U·User .uses x) ⌝ }
-{
-    any(x.uses().as_slice(), &FromRow(row))
 }
 
 pub fn function_placement(t: &Tables, index: &Index, row: usize, x: FunctionRow) -> bool

@@ -14,6 +14,7 @@ use crate::uses::FunctionUser;
 use crate::uses::NodeUser;
 use crate::uses::StatementUser;
 use crate::uses::User;
+use crate::uses::uses_from;
 use tables::kinds::NodeKind;
 use tables::kinds::StatementKind;
 use tables::kinds::TypeKind;
@@ -39,18 +40,6 @@ pub impl Test<ConstructorRow> for OfData as OfDataTest {
 
     fn holds(&self, row: ConstructorRow) -> bool {
         row.number == self.0
-    }
-}
-
-/// Rows from this one on.
-#[derive(Clone, Copy)]
-pub struct FromRow(pub usize);
-
-pub impl Test<u16> for FromRow as FromRowTest {
-    ghost holds = { λ s x. leb (s .0) x };
-
-    fn holds(&self, row: u16) -> bool {
-        row as usize >= self.0
     }
 }
 
@@ -99,7 +88,7 @@ pub fn constructor_range(t: &Tables, x: ConstructorRow) -> bool
 fn uses_absent<U: User>(t: &Tables, x: U) -> bool
     ensures absent { λ r. ⌜ r ≡ usesAbsent (content (now (t .entry))) (U·User .uses x) ⌝ }
 {
-    any(x.uses().as_slice(), &FromRow(t.nodes.len()))
+    uses_from(t.nodes.len(), x)
 }
 
 pub fn function_range(t: &Tables, x: FunctionRow) -> bool

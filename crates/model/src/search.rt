@@ -1,6 +1,6 @@
 ghost use mathlib.Core.Bool.{Bool};
 ghost use mathlib.Core.Path.{_≡_};
-ghost use Rattle.model.specs.Words.{some, part};
+ghost use Rattle.model.specs.Words.{some, at, part};
 
 /// A test of rows.
 pub trait Test<R> {
@@ -29,4 +29,14 @@ pub fn part<T>(rows: &[T], first: usize, count: usize) -> &[T]
     let start = first.min(rows.len());
     let end = start + count.min(rows.len() - start);
     &rows[start..end]
+}
+
+/// Whether the row at this place, if there is one, passes the test.
+pub fn test_at<R: Copy, T: Test<R>>(rows: &[R], row: usize, test: &T) -> bool
+    ensures at { λ r. ⌜ r ≡ at (now (rows .entry)) row (T·Test .holds (now (test .entry))) ⌝ }
+{
+    if row >= rows.len() {
+        return false;
+    }
+    test.holds(rows[row])
 }

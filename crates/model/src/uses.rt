@@ -1,8 +1,13 @@
 ghost use mathlib.Core.List.{List, _++_};
+ghost use mathlib.Core.Bool.{Bool};
 ghost use mathlib.Core.Path.{_≡_};
+ghost use lib.Dec.{leb};
+ghost use Rattle.model.specs.Words.{some};
 ghost use Prim.Native.Nat.{ℕ, _≤_, min};
 ghost use lib.ListN.{length, take};
 ghost use Rattle.model.specs.Uses.{functionUses, nodeUses, branchUses, statementUses, objectUses, partUses};
+use crate::search::Test;
+use crate::search::any;
 use tables::kinds::StatementKind;
 use tables::rows::BranchRow;
 use tables::rows::FunctionRow;
@@ -107,4 +112,23 @@ pub impl User for StatementRow as StatementUser {
             _ => parts(self),
         }
     }
+}
+
+/// Rows from this one on.
+#[derive(Clone, Copy)]
+struct FromRow(usize);
+
+impl Test<u16> for FromRow as FromRowTest {
+    ghost holds = { λ s x. leb (s .0) x };
+
+    fn holds(&self, row: u16) -> bool {
+        row as usize >= self.0
+    }
+}
+
+/// Whether the row uses a node that does not stand lower than this one.
+pub fn uses_from<U: User>(row: usize, x: U) -> bool
+    ensures above { λ r. ⌜ r ≡ some (leb row) (U·User .uses x) ⌝ }
+{
+    any(x.uses().as_slice(), &FromRow(row))
 }
