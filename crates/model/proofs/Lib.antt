@@ -1,4 +1,5 @@
 mod Claims
 mod Columns
+mod Faults
 mod SameTypes
 mod Walks

@@ -4,6 +4,7 @@ pub mod index;
 pub mod methods;
 pub mod placement;
 pub mod range;
+pub mod rules;
 pub mod search;
 pub mod shape;
 pub mod types;

@@ -1,2 +1,4 @@
+pub mod First
 mod Header
+pub mod Least
 mod Steps
