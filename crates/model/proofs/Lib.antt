@@ -1,5 +1,6 @@
 mod Claims
 mod Columns
+mod Decides
 mod Faults
 mod SameTypes
 mod Walks

@@ -3,6 +3,7 @@ pub mod Index
 pub mod Methods
 pub mod Placement
 pub mod Range
+pub mod Reading
 pub mod Rules
 pub mod Shape
 pub mod Types

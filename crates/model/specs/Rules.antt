@@ -185,7 +185,7 @@ abbrev pub caseOf : List ℕ → Case TableRule
 caseOf bs = judgedWith (headerBroken bs) (contentOf bs)
 
 -- The least fault of a model's bytes.
-abbrev pub verdictIn : List ℕ → Option (Fault TableRule)
+unfoldable pub verdictIn : List ℕ → Option (Fault TableRule)
 verdictIn bs = verdictOf (caseOf bs)
 
 -- a row's fault under a rule

@@ -2,6 +2,7 @@
 pub mod holders;
 pub mod index;
 pub mod methods;
+pub mod model;
 pub mod placement;
 pub mod range;
 pub mod rules;

@@ -349,7 +349,7 @@ const TABLES: [Table; 12] = [
 ];
 
 /// The first of these rules that a place breaks.
-fn first_rule_fault(t: &Tables, index: &Index, rules: &[TableRule]) -> Option<Fault<TableRule>>
+pub fn first_rule_fault(t: &Tables, index: &Index, rules: &[TableRule]) -> Option<Fault<TableRule>>
     requires { ⌜ Indexes (content (now t)) (now index) ⌝ }
     ensures first { λ r. ⌜ r ≡ firstIn (underRule (judgedWith sound (content (now (t .entry))))) (now (rules .entry)) ⌝ }
 {

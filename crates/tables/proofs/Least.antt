@@ -49,7 +49,7 @@ module _ {R : Type 0} (c : Case R) where
   none-table : (x : R) (t : Table) → ((r : ℕ) → r < c .rows t → c .broken x t r ≡ true → ⊥) → inTable c x t ≡ None
   none-table x t h = below-none (inRow c x t) (c .rows t) (λ r lt. quiet (c .broken x t r) (fault x t r) (h r lt))
 
-  none-rule : (x : R) → ((t : Table) (r : ℕ) → r < c .rows t → c .broken x t r ≡ true → ⊥) → underRule c x ≡ None
+  pub none-rule : (x : R) → ((t : Table) (r : ℕ) → r < c .rows t → c .broken x t r ≡ true → ⊥) → underRule c x ≡ None
   none-rule x h = none-in (inTable c x) allTables (λ t at. none-table x t (h t))
 
 module _ {R : Type 0} (number : R → ℕ) (c : Case R) (complete : (x : R) → In x (c .rules)) (rising : Rising number 0 (c .rules)) where
