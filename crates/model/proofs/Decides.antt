@@ -1,6 +1,6 @@
 -- The header's rules come first, and no row breaks one of them.
 use mathlib.Core.Path.{_≡_, refl, sym, _∙_, ap, subst, fun-ext}
-use mathlib.Core.Bool.{Bool, true, false, cond}
+use mathlib.Core.Bool.{Bool, true, false, not, cond}
 use mathlib.Core.List.{List, [], _∷_}
 use mathlib.Core.Logic.{inl, inr}
 use Prim.Native.Nat.{ℕ, zero, suc, _<_}
@@ -16,18 +16,23 @@ use Rattle.tables.specs.declared.place.TableRule.the-variants.{Length, Counts, 
 use Rattle.tables.specs.declared.rows.ClassRow.{ClassRow}
 use Rattle.tables.specs.declared.tables.Tables.{Tables}
 use Rattle.tables.specs.Places.{ruleNumber}
-use Rattle.tables.specs.Layout.{Content, wrongLength, wrongCounts, contentOf}
+use Rattle.tables.specs.Layout.{Content, wrongLength, wrongCounts, content, contentOf}
 use Rattle.tables.specs.Least.{fault, firstIn, underRule, verdictOf, Judges}
 use Rattle.std.specs.declared.result.Result.{Result}
 use Rattle.std.specs.declared.result.Result.the-variants.{Ok, Err}
 use Rattle.tables.specs.declared.read.ReadError.{ReadError}
 use Rattle.tables.specs.declared.read.ReadError.the-variants.{NoMemory, Refused}
 use Rattle.tables.specs.Reading.{headerVerdict, Reads}
-use Rattle.model.specs.Reading.{Checks, JudgesBytes}
-use Rattle.tables.proofs.First.{In, Rising}
+use Rattle.model.specs.Reading.{Checks, JudgesBytes, ReadsModel}
+use Rattle.model.specs.declared.model.ReadModel.{ReadModel}
+use Rattle.std.specs.Of.Vec.{vec-items}
+use Rattle.std.specs.Options.{isSome}
+use Rattle.std.specs.declared.alloc.Global.{Global}
+use Rattle.std.specs.declared.vec.Vec.{Vec}
+use Rattle.tables.proofs.First.{In, Rising, some-none}
 use Rattle.tables.proofs.Least.{none-rule, judges}
 use Rattle.model.specs.Words.{at}
-use Rattle.model.specs.Rules.{allRules, broken, classesBroken, judgedWith, headerBroken, caseOf, verdictIn, sound}
+use Rattle.model.specs.Rules.{allRules, broken, classesBroken, judgedWith, headerBroken, caseOf, verdictIn, sound, keepsRules}
 
 never : {A : Type 0} (xs : List A) (r : ℕ) → at xs r (λ x. false) ≡ false
 never [] r = refl
@@ -167,3 +172,24 @@ pub judge-bytes : (bs : List ℕ) (r : Result Tables ReadError) → Checks bs r 
 judge-bytes bs (Ok t) h = judged-by bs None (h .0)
 judge-bytes bs (Err (Refused f)) h = judged-by bs (Some f) h
 judge-bytes bs (Err NoMemory) h = tt
+
+-- the tables of bytes that pass keep every rule by themselves
+pub tables-keep : (bs : List ℕ) (t : Tables) → Checks bs (Ok t) → keepsRules (content t) ≡ true
+unfolding keepsRules
+tables-keep bs t h = by (headerVerdict bs) refl
+  where
+    by : (v : Option (Fault TableRule)) → headerVerdict bs ≡ v → not (isSome (verdictOf (judgedWith sound (content t)))) ≡ true
+    by (Some f) e = absurd (some-none f (sym (header-decides bs f e) ∙ h .0))
+    by None e =
+        let same : verdictOf (judgedWith sound (content t)) ≡ None =
+            ap (λ (m : Content). verdictOf (judgedWith sound m)) (h .1) ∙ others-decide sound (contentOf bs) refl refl ∙ sym (tables-decide bs e) ∙ h .0 in
+        ap (λ (v : Option (Fault TableRule)). not (isSome v)) same
+
+-- a read model, from the tables that the check gave
+pub read-model : (bytes : Vec ℕ Global) (t : Tables) (m : ReadModel) → Checks (vec-items bytes) (Ok t) → m .bytes ≡ bytes → m .tables ≡ t →
+    ReadsModel bytes (Ok m)
+read-model bytes t m h b e = (h .0, b, ap content e ∙ h .1)
+
+pub unread-model : (bytes : Vec ℕ Global) (e : ReadError) → Checks (vec-items bytes) (Err e) → ReadsModel bytes (Err e)
+unread-model bytes NoMemory h = tt
+unread-model bytes (Refused f) h = h

@@ -2,5 +2,6 @@ mod Claims
 mod Columns
 mod Decides
 mod Faults
+mod Inputs
 mod SameTypes
 mod Walks

@@ -48,7 +48,7 @@ tail-clamped xs i k e =
       | inr ge ↦ (let h : length xs ≤ k = omega arith in rw (take-rest xs k, drop-all k xs h, drop-all i xs ge))
     ]
 
-take-clamped : {A : Type 0} (ys : List A) (n k : ℕ) → k ≡ min n (length ys) → take k ys ≡ take n ys
+pub take-clamped : {A : Type 0} (ys : List A) (n k : ℕ) → k ≡ min n (length ys) → take k ys ≡ take n ys
 take-clamped ys n k e =
     elim (cases-lt n (length ys)) [
       | inl lt ↦ (let h : k ≡ n = omega arith in rw h)

@@ -1,5 +1,6 @@
 pub mod Holders
 pub mod Index
+pub mod Input
 pub mod Methods
 pub mod Placement
 pub mod Range

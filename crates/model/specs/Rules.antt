@@ -1,8 +1,9 @@
 -- The rules of the format, each at its table, and what is judged of a model's bytes.
-use mathlib.Core.Bool.{Bool, true, false, cond}
+use mathlib.Core.Bool.{Bool, true, false, not, cond}
 use mathlib.Core.List.{List, [], _∷_}
 use Prim.Native.Nat.{ℕ}
 use lib.ListN.{length}
+use Rattle.std.specs.Options.{isSome}
 use Rattle.std.specs.declared.option.Option.{Option}
 use Rattle.std.specs.declared.option.Option.the-variants.{Some, None}
 use Rattle.tables.specs.declared.place.Fault.{Fault}
@@ -195,3 +196,7 @@ rowFault xs test rule table r = cond (at xs r (test r)) (Some (fault rule table 
 -- a header that breaks no rule
 abbrev pub sound : TableRule → Bool
 sound rule = false
+
+-- tables that break no rule
+unfoldable pub keepsRules : Content → Bool
+keepsRules m = not (isSome (verdictOf (judgedWith sound m)))

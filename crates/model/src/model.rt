@@ -1,10 +1,8 @@
-ghost use mathlib.Core.Bool.{false};
+ghost use mathlib.Core.Bool.{true};
 ghost use mathlib.Core.Path.{_≡_};
 ghost use Rattle.std.specs.Of.Vec.{vec-items};
-ghost use Rattle.std.specs.Options.{isSome};
 ghost use Rattle.tables.specs.Layout.{content, contentOf};
-ghost use Rattle.tables.specs.Least.{verdictOf};
-ghost use Rattle.model.specs.Rules.{judgedWith, sound};
+ghost use Rattle.model.specs.Rules.{keepsRules};
 use tables::tables::Tables;
 
 pub mod reading;
@@ -15,5 +13,5 @@ pub struct ReadModel {
     bytes: Vec<u8>,
     tables: Tables,
     ghost spelled: { ∥ content tables ≡ contentOf (vec-items bytes) ∥₁ },
-    ghost keeps: { isSome (verdictOf (judgedWith sound (content tables))) ≡ false },
+    ghost keeps: { keepsRules (content tables) ≡ true },
 }

@@ -48,7 +48,8 @@ pub impl From<AllocError> for ReadError as ReadErrorFromAlloc {
     }
 }
 
-fn header_fault(rule: TableRule) -> ReadError
+/// The fault of a header that breaks the rule.
+pub fn header_fault(rule: TableRule) -> ReadError
     ensures fault { λ r. ⌜ r ≡ Refused (headerFault rule) ⌝ }
 {
     ReadError::Refused(Fault {

@@ -1,10 +1,7 @@
 //! Reading a model: a check on the bytes, which may refuse, and then the move, which cannot.
 ghost use mathlib.Core.Path.{_≡_};
 ghost use Rattle.std.specs.Of.Vec.{vec-items};
-ghost use Rattle.std.specs.declared.option.Option.the-variants.{None};
-ghost use Rattle.tables.specs.Layout.{content, contentOf};
-ghost use Rattle.tables.specs.Places.{ruleNumber};
-ghost use Rattle.model.specs.Rules.{caseOf, verdictIn};
+ghost use Rattle.std.specs.declared.result.Result.the-variants.{Ok};
 ghost use Rattle.model.specs.Reading.{Checks, JudgesBytes, ReadsModel};
 use crate::index::Index;
 use crate::model::ReadModel;
@@ -27,5 +24,39 @@ pub fn check(heap: Global, bytes: &[u8]) -> Result<Tables, ReadError>
     match first_rule_fault(&tables, &index, &rules) {
         Some(fault) => Err(ReadError::Refused(fault)),
         None => Ok(tables),
+    }
+}
+
+impl ReadModel {
+    /// The bytes as a read model: for tables that the check of these bytes gave.
+    pub fn new(bytes: Vec<u8>, tables: Tables) -> ReadModel
+        requires checked { ⌜ Checks (vec-items bytes) (Ok tables) ⌝ }
+        ensures bytes { λ r. ⌜ r .bytes ≡ bytes ⌝ }
+        ensures tables { λ r. ⌜ r .tables ≡ tables ⌝ }
+    {
+        ReadModel { bytes, tables }
+    }
+
+    /// The model that the bytes spell, or why there is none.
+    pub fn read(heap: Global, bytes: Vec<u8>) -> Result<ReadModel, ReadError>
+        ensures read { λ r. ⌜ ReadsModel bytes r ⌝ }
+        ensures least { λ r. ⌜ JudgesBytes (vec-items bytes) r ⌝ }
+    {
+        let tables = check(heap, bytes.as_slice())?;
+        Ok(ReadModel::new(bytes, tables))
+    }
+
+    /// The bytes that were read.
+    pub fn bytes(&self) -> &[u8]
+        ensures bytes { λ r. ⌜ now r ≡ vec-items (now (self .entry) .bytes) ⌝ }
+    {
+        self.bytes.as_slice()
+    }
+
+    /// The tables that the bytes spell.
+    pub fn tables(&self) -> &Tables
+        ensures tables { λ r. ⌜ now r ≡ now (self .entry) .tables ⌝ }
+    {
+        &self.tables
     }
 }
