@@ -20,7 +20,7 @@ use Rattle.model.specs.Rules.{verdictIn}
 use Rattle.model.specs.Input.{Keeps, modelIn}
 use Rattle.model.specs.declared.input.Input.{Input}
 use Rattle.model.proofs.Decides.{header-decides}
-use Rattle.model.proofs.Walks.{take-clamped}
+use Rattle.rules.proofs.Walks.{take-clamped}
 
 take-joined : (n : ℕ) (xs ys : List ℕ) → take n (xs ++ ys) ≡ take n xs ++ take (n - length xs) ys
 take-joined n [] ys = let e : n - 0 ≡ n = omega arith in go n (take n ys) e refl
@@ -60,9 +60,9 @@ too-long bs lt =
     elim (cases-bool (overLimit (headerCounts bs))) [
       | inl over ↦ or-left _ _ over
       | inr within ↦ (
-        let cells : cellsOf (headerCounts bs) ≤ 21725 = largest (headerCounts bs) within in
-        or-right _ _ (not-from-false _ (ne-eqb (27 + 2 * cellsOf (headerCounts bs)) (length bs) (λ e. omega arith)))
-      )
+          let cells : cellsOf (headerCounts bs) ≤ 21725 = largest (headerCounts bs) within in
+          or-right _ _ (not-from-false _ (ne-eqb (27 + 2 * cellsOf (headerCounts bs)) (length bs) (λ e. omega arith)))
+          )
     ]
 
 -- what makes a length right or wrong

@@ -1,7 +1,2 @@
-mod Claims
-mod Columns
 mod Decides
-mod Faults
 mod Inputs
-mod SameTypes
-mod Walks

@@ -1,12 +1,3 @@
-pub mod Holders
-pub mod Index
 pub mod Input
-pub mod Methods
-pub mod Placement
-pub mod Range
 pub mod Reading
 pub mod Rules
-pub mod Shape
-pub mod Types
-pub mod Uses
-pub mod Words

@@ -1,21 +1,30 @@
 -- What the check of a model's bytes answers, and what reading them makes.
 use mathlib.Core.Path.{_≡_}
-use mathlib.Core.List.{List}
+use mathlib.Core.Bool.{false}
+use mathlib.Core.List.{List, [], _∷_}
 use Prim.Native.Nat.{ℕ}
 use Rattle.std.specs.Of.Vec.{vec-items}
 use Rattle.std.specs.declared.alloc.Global.{Global}
+use Rattle.std.specs.declared.option.Option.{Option}
 use Rattle.std.specs.declared.option.Option.the-variants.{Some, None}
 use Rattle.std.specs.declared.result.Result.{Result}
 use Rattle.std.specs.declared.result.Result.the-variants.{Ok, Err}
 use Rattle.std.specs.declared.vec.Vec.{Vec}
+use Rattle.tables.specs.declared.place.Fault.{Fault}
+use Rattle.tables.specs.declared.place.TableRule.{TableRule}
+use Rattle.tables.specs.declared.place.TableRule.the-variants.{Range, Placement, Shape, Method}
 use Rattle.tables.specs.declared.read.ReadError.{ReadError}
 use Rattle.tables.specs.declared.read.ReadError.the-variants.{NoMemory, Refused}
 use Rattle.tables.specs.declared.tables.Tables.{Tables}
-use Rattle.tables.specs.Layout.{content, contentOf}
-use Rattle.tables.specs.Least.{Judges}
+use Rattle.tables.specs.Layout.{Content, content, contentOf}
+use Rattle.tables.specs.Least.{firstIn, underRule, Judges}
 use Rattle.tables.specs.Places.{ruleNumber}
 use Rattle.model.specs.declared.model.ReadModel.{ReadModel}
-use Rattle.model.specs.Rules.{caseOf, verdictIn}
+use Rattle.model.specs.Rules.{judgedWith, caseOf, verdictIn}
+
+-- The first fault of tables, rule by rule.
+abbrev pub tableFaults : Content → Option (Fault TableRule)
+tableFaults m = firstIn (underRule (judgedWith false false m)) (Range ∷ Placement ∷ Shape ∷ Method ∷ [])
 
 -- The tables that the bytes spell where no rule is broken, else the least fault; want of memory says nothing of the bytes.
 abbrev pub Checks : List ℕ → Result Tables ReadError → Type 0

@@ -1,13 +1,3 @@
-//! The rules that the tables of a model keep, and the model that is read once they hold.
-pub mod holders;
-pub mod index;
+//! The read model: bytes that keep every rule of the format, with the tables that they spell.
 pub mod input;
-pub mod methods;
 pub mod model;
-pub mod placement;
-pub mod range;
-pub mod rules;
-pub mod search;
-pub mod shape;
-pub mod types;
-pub mod uses;

@@ -61,9 +61,9 @@ module _ {A B : Type 0} (f : A → Option B) where
       elim (orElse-some (f z) (firstIn f zs) y h) [
         | inl e ↦ (z, inl refl, e, λ w at lt. absurd (let least = rising-above key (key z) (z ∷ zs) (omega arith, rising .1) w at in omega arith))
         | inr p ↦ (
-          let q = some-in key (suc (key z)) zs (rising .1) y (p .1) in
-          (q .0, inr (q .1), q .2, λ w at lt. ⊎-elim (λ (e : w ≡ z). rw e (p .0)) (λ (in-zs : In w zs). q .3 w in-zs lt) at)
-        )
+            let q = some-in key (suc (key z)) zs (rising .1) y (p .1) in
+            (q .0, inr (q .1), q .2, λ w at lt. ⊎-elim (λ (e : w ≡ z). rw e (p .0)) (λ (in-zs : In w zs). q .3 w in-zs lt) at)
+            )
       ]
 
 module _ {B : Type 0} (f : ℕ → Option B) where

@@ -1,6 +1,6 @@
 //! The byte format of a model: its numbers, rows and tables, and the reader that makes them.
 pub mod kinds;
-pub mod numbers;
+mod numbers;
 pub mod place;
 pub mod read;
 pub mod rows;

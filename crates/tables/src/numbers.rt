@@ -9,7 +9,7 @@ use std::alloc::AllocError;
 use std::alloc::Global;
 
 /// The two-byte numbers that the bytes spell, the high byte first.
-pub fn numbers(heap: Global, bytes: &[u8]) -> Result<Vec<u16>, AllocError>
+pub(crate) fn numbers(heap: Global, bytes: &[u8]) -> Result<Vec<u16>, AllocError>
     ensures spelled { λ r. ⌜ made r (λ v. vec-items v ≡ numbersOf (now (bytes .entry))) ⌝ }
 {
     let mut out = Vec::with_capacity(heap, bytes.len() / 2)?;
@@ -22,7 +22,7 @@ pub fn numbers(heap: Global, bytes: &[u8]) -> Result<Vec<u16>, AllocError>
 }
 
 /// A row of a table: a fixed number of columns, each a number.
-pub trait Row: Copy {
+pub(crate) trait Row: Copy {
     ghost width: { ℕ };
 
     ghost spelled: { List ℕ → Self };
@@ -36,7 +36,11 @@ pub trait Row: Copy {
 }
 
 /// The first `count` rows that the numbers spell.
-pub(crate) fn rows<R: Row>(heap: Global, numbers: &[u16], count: usize) -> Result<Vec<R>, AllocError>
+pub(crate) fn rows<R: Row>(
+    heap: Global,
+    numbers: &[u16],
+    count: usize,
+) -> Result<Vec<R>, AllocError>
     requires { ⌜ count * R·Row .width ≤ length (now numbers) ⌝ }
     ensures spelled { λ r. ⌜ made r (λ v. vec-items v ≡ rowsOf (R·Row .width) (R·Row .spelled) count (now (numbers .entry))) ⌝ }
 {

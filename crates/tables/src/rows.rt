@@ -111,7 +111,7 @@ pub struct StatementRow {
     pub other: u16,
 }
 
-pub impl Row for TypeRow as TypeRowRead {
+pub(crate) impl Row for TypeRow as TypeRowRead {
     ghost width = { 2 };
 
     ghost spelled = { typeRow };
@@ -128,7 +128,7 @@ pub impl Row for TypeRow as TypeRowRead {
     }
 }
 
-pub impl Row for ListRow as ListRowRead {
+pub(crate) impl Row for ListRow as ListRowRead {
     ghost width = { 1 };
 
     ghost spelled = { listRow };
@@ -138,13 +138,11 @@ pub impl Row for ListRow as ListRowRead {
     }
 
     fn read(cells: &[u16]) -> ListRow {
-        ListRow {
-            entry: cells[0],
-        }
+        ListRow { entry: cells[0] }
     }
 }
 
-pub impl Row for ConstructorRow as ConstructorRowRead {
+pub(crate) impl Row for ConstructorRow as ConstructorRowRead {
     ghost width = { 3 };
 
     ghost spelled = { constructorRow };
@@ -162,7 +160,7 @@ pub impl Row for ConstructorRow as ConstructorRowRead {
     }
 }
 
-pub impl Row for FunctionRow as FunctionRowRead {
+pub(crate) impl Row for FunctionRow as FunctionRowRead {
     ghost width = { 5 };
 
     ghost spelled = { functionRow };
@@ -182,7 +180,7 @@ pub impl Row for FunctionRow as FunctionRowRead {
     }
 }
 
-pub impl Row for InterfaceRow as InterfaceRowRead {
+pub(crate) impl Row for InterfaceRow as InterfaceRowRead {
     ghost width = { 2 };
 
     ghost spelled = { interfaceRow };
@@ -199,7 +197,7 @@ pub impl Row for InterfaceRow as InterfaceRowRead {
     }
 }
 
-pub impl Row for SignatureRow as SignatureRowRead {
+pub(crate) impl Row for SignatureRow as SignatureRowRead {
     ghost width = { 4 };
 
     ghost spelled = { signatureRow };
@@ -218,7 +216,7 @@ pub impl Row for SignatureRow as SignatureRowRead {
     }
 }
 
-pub impl Row for ClassRow as ClassRowRead {
+pub(crate) impl Row for ClassRow as ClassRowRead {
     ghost width = { 8 };
 
     ghost spelled = { classRow };
@@ -241,7 +239,7 @@ pub impl Row for ClassRow as ClassRowRead {
     }
 }
 
-pub impl Row for MethodRow as MethodRowRead {
+pub(crate) impl Row for MethodRow as MethodRowRead {
     ghost width = { 7 };
 
     ghost spelled = { methodRow };
@@ -263,7 +261,7 @@ pub impl Row for MethodRow as MethodRowRead {
     }
 }
 
-pub impl Row for NodeRow as NodeRowRead {
+pub(crate) impl Row for NodeRow as NodeRowRead {
     ghost width = { 7 };
 
     ghost spelled = { nodeRow };
@@ -285,7 +283,7 @@ pub impl Row for NodeRow as NodeRowRead {
     }
 }
 
-pub impl Row for BranchRow as BranchRowRead {
+pub(crate) impl Row for BranchRow as BranchRowRead {
     ghost width = { 3 };
 
     ghost spelled = { branchRow };
@@ -303,7 +301,7 @@ pub impl Row for BranchRow as BranchRowRead {
     }
 }
 
-pub impl Row for StatementRow as StatementRowRead {
+pub(crate) impl Row for StatementRow as StatementRowRead {
     ghost width = { 11 };
 
     ghost spelled = { statementRow };

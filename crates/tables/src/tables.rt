@@ -47,7 +47,7 @@ pub struct Tables {
 
 impl Counts {
     /// Whether a table has more rows than it may have.
-    pub fn over_limit(&self) -> bool
+    pub(crate) fn over_limit(&self) -> bool
         ensures limits { λ r. ⌜ r ≡ overLimit (now (self .entry)) ⌝ }
     {
         self.types > 255
@@ -64,7 +64,7 @@ impl Counts {
     }
 
     /// How many numbers the rows of all tables have.
-    pub fn cells(&self) -> usize
+    pub(crate) fn cells(&self) -> usize
         ensures cells { λ r. ⌜ r ≡ cellsOf (now (self .entry)) ⌝ }
     {
         self.types as usize * 2
@@ -81,7 +81,7 @@ impl Counts {
     }
 }
 
-pub impl Row for Counts as CountsRead {
+pub(crate) impl Row for Counts as CountsRead {
     ghost width = { 11 };
 
     ghost spelled = { counts };

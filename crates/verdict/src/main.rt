@@ -25,12 +25,25 @@ fn take_in(rt: &LibcRuntime, input: &mut Input) -> Result<(), AnyError> {
 /// One line with each table's name and number of rows.
 fn print_counts(rt: &LibcRuntime, t: &Tables) -> io::Result<()> {
     let (types, lists, constructors) = (t.types.len(), t.lists.len(), t.constructors.len());
-    let (functions, interfaces, signatures) = (t.functions.len(), t.interfaces.len(), t.signatures.len());
+    let (functions, interfaces, signatures) = (
+        t.functions.len(),
+        t.interfaces.len(),
+        t.signatures.len(),
+    );
     let (classes, methods, nodes) = (t.classes.len(), t.methods.len(), t.nodes.len());
     let (branches, statements) = (t.branches.len(), t.statements.len());
-    print!(rt, "types {types} lists {lists} constructors {constructors} functions {functions} ")?;
-    print!(rt, "interfaces {interfaces} signatures {signatures} classes {classes} ")?;
-    println!(rt, "methods {methods} nodes {nodes} branches {branches} statements {statements}")
+    print!(
+        rt,
+        "types {types} lists {lists} constructors {constructors} functions {functions} "
+    )?;
+    print!(
+        rt,
+        "interfaces {interfaces} signatures {signatures} classes {classes} "
+    )?;
+    println!(
+        rt,
+        "methods {methods} nodes {nodes} branches {branches} statements {statements}"
+    )
 }
 
 fn print_fault(rt: &LibcRuntime, fault: Fault<TableRule>) -> io::Result<()> {

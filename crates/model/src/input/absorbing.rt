@@ -30,7 +30,12 @@ fn stated_length(bytes: &[u8]) -> usize
     ensures stated { λ r. ⌜ r ≡ statedLength (now (bytes .entry)) ⌝ }
     ensures bound { λ r. ⌜ r ≤ 2 ^ 32 ⌝ }
 {
-    let at = [byte(bytes, 0), byte(bytes, 1), byte(bytes, 2), byte(bytes, 3)];
+    let at = [
+        byte(bytes, 0),
+        byte(bytes, 1),
+        byte(bytes, 2),
+        byte(bytes, 3),
+    ];
     u32::from_be_bytes(at) as usize
 }
 
@@ -50,7 +55,8 @@ impl Input {
         ensures absorbs { λ r. ⌜ Absorbs (now (self .entry)) (now (piece .entry)) r (now (self .exit)) ⌝ }
     {
         let room = LARGEST - self.kept.len();
-        self.kept.extend_from_slice(&piece[0..room.min(piece.len())])?;
+        self.kept
+            .extend_from_slice(&piece[0..room.min(piece.len())])?;
         self.total = self.total.saturating_add(piece.len());
         Ok(())
     }

@@ -1,11 +1,12 @@
 //! Reading a model: a check on the bytes, which may refuse, and then the move, which cannot.
 ghost use mathlib.Core.Path.{_≡_};
 ghost use Rattle.std.specs.Of.Vec.{vec-items};
+ghost use Rattle.std.specs.Vec.{made};
+ghost use Rattle.tables.specs.Layout.{content};
 ghost use Rattle.std.specs.declared.result.Result.the-variants.{Ok};
-ghost use Rattle.model.specs.Reading.{Checks, JudgesBytes, ReadsModel};
-use crate::index::Index;
+ghost use Rattle.model.specs.Reading.{Checks, JudgesBytes, ReadsModel, tableFaults};
 use crate::model::ReadModel;
-use crate::rules::first_rule_fault;
+use std::alloc::AllocError;
 use std::alloc::Global;
 use tables::place::Fault;
 use tables::place::TableRule;
@@ -13,15 +14,33 @@ use tables::read::ReadError;
 use tables::read::ReadErrorFromAlloc;
 use tables::tables::Tables;
 
+/// The first fault of the tables, rule by rule.
+fn first_fault(heap: Global, t: &Tables) -> Result<Option<Fault<TableRule>>, AllocError>
+    ensures first { λ r. ⌜ made r (λ v. v ≡ tableFaults (content (now (t .entry)))) ⌝ }
+{
+    let missing = range::first_fault(t);
+    if missing.is_some() {
+        return Ok(missing);
+    }
+    let misplaced = placement::first_fault(heap, t)?;
+    if misplaced.is_some() {
+        return Ok(misplaced);
+    }
+    let misshapen = shape::shape::first_fault(heap, t)?;
+    if misshapen.is_some() {
+        return Ok(misshapen);
+    }
+    Ok(shape::methods::first_fault(t))
+}
+
 /// The tables that the bytes spell, if they keep every rule of the format.
 pub fn check(heap: Global, bytes: &[u8]) -> Result<Tables, ReadError>
     ensures checked { λ r. ⌜ Checks (now (bytes .entry)) r ⌝ }
     ensures least { λ r. ⌜ JudgesBytes (now (bytes .entry)) r ⌝ }
 {
     let tables = Tables::read(heap, bytes)?;
-    let index = Index::new(heap, &tables)?;
-    let rules = [TableRule::Range, TableRule::Placement, TableRule::Shape, TableRule::Method];
-    match first_rule_fault(&tables, &index, &rules) {
+    let found = first_fault(heap, &tables)?;
+    match found {
         Some(fault) => Err(ReadError::Refused(fault)),
         None => Ok(tables),
     }

@@ -15,8 +15,8 @@ returns-in-Break-extend-from-slice c =
 pub returns : need.returns
 returns c =
     let room : c .min .result ≡ min (43477 - length (vec-items (c .args .self .now .kept))) (length (c .args .piece .now)) =
-        omega (arith, c .min .ensures, c .len-room .ensures, c .args .self .now .kept .ok .0) in
+    omega (arith, c .min .ensures, c .len-room .ensures, c .args .self .now .kept .ok .0) in
     record {
       absorbs = λ input h. keeps-more (c .args .self .now) _ (c .args .piece .now) input (c .min .result) h room
-        (c .in-Continue-extend-from-slice .ensures tt .items) (c .saturating-add-self .ensures)
+          (c .in-Continue-extend-from-slice .ensures tt .items) (c .saturating-add-self .ensures);
     }

@@ -1,3 +1,4 @@
+use mathlib.Core.Path.{sym, _∙_}
 use Rattle.std.proofs.shelf.Results.{err-from-errBy}
 use Rattle.std.specs.declared.option.Option.the-variants.{Some, None}
 use Rattle.std.specs.declared.result.Result.the-variants.{Ok, Err}
@@ -18,12 +19,12 @@ returns-in-Break-tables c =
 pub returns-in-Some : need.returns-in-Some
 returns-in-Some c =
     let bytes = c .args .bytes .now in
-    let told = checked bytes (content (c .in-Continue-tables .tables)) (Some (c .in-Some .fault)) (c .in-Continue-tables .ensures tt .reads) (c .in-Some .ensures tt .first) in
+    let told = checked bytes (content (c .in-Continue-tables .tables)) (Some (c .in-Some .fault)) (c .in-Continue-tables .ensures tt .reads) (sym (c .in-Some .is) ∙ c .in-Continue-found .ensures tt .first) in
     record { checked = told; least = judge-bytes bytes (Err (Refused (c .in-Some .fault))) told }
 
 pub returns-in-None : need.returns-in-None
 returns-in-None c =
     let bytes = c .args .bytes .now in
     let read = c .in-Continue-tables .ensures tt .reads in
-    let told = checked bytes (content (c .in-Continue-tables .tables)) None read (c .in-None .ensures tt .first) in
+    let told = checked bytes (content (c .in-Continue-tables .tables)) None read (sym (c .in-None .is) ∙ c .in-Continue-found .ensures tt .first) in
     record { checked = (told, read .1); least = judge-bytes bytes (Ok (c .in-Continue-tables .tables)) (told, read .1) }

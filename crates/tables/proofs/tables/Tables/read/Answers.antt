@@ -22,6 +22,6 @@ returns c =
     record {
       reads = (
         keeps bytes counts (c .if-wrong-length .ensures tt .length) stated (c .if-over-limit .ensures tt .limits) fill,
-        whole bytes counts (content (c .in-Continue-cut-tables .field-0)) stated (rw cells at (c .in-Continue-cut-tables .ensures tt .cut))
-      )
+        whole bytes counts (content (c .in-Continue-cut-tables .field-0)) stated (rw cells at (c .in-Continue-cut-tables .ensures tt .cut)),
+      );
     }

@@ -1,0 +1,3 @@
+pub mod Holders
+pub mod Index
+pub mod Placement

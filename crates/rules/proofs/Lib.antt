@@ -1,0 +1,3 @@
+mod Columns
+pub mod Searches
+pub mod Walks

@@ -1,0 +1,4 @@
+pub mod Faults
+pub mod Types
+pub mod Uses
+pub mod Words

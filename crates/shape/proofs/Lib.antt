@@ -1,0 +1,2 @@
+mod SameTypes
+mod Tables

@@ -1,0 +1,2 @@
+pub mod Methods
+pub mod Shape
