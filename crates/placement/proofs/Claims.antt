@@ -15,7 +15,8 @@ use Rattle.std.specs.declared.option.Option.{Option}
 use Rattle.std.specs.declared.option.Option.the-variants.{Some, None}
 use Rattle.tables.specs.declared.place.Place.{Place}
 use Rattle.tables.specs.declared.rows.BranchRow.{BranchRow}
-use Rattle.placement.specs.Holders.{Holders, claim, claimAll, claimRange, claimRows, ifFree, runLength}
+use Rattle.placement.specs.Claims.{claim, claimAll, claimRange, claimRows, ifFree}
+use Rattle.placement.specs.Holders.{Holders, runLength}
 use Rattle.rules.proofs.Walks.{behind}
 
 -- a thing that is not there is not claimed

@@ -1,3 +1,4 @@
 mod Claims
 mod Doubles
+mod Held
 mod Tables

@@ -1,10 +1,11 @@
--- Who holds what: a node its first user, a branch its case, a method its class, a statement its method.
--- Rows claim what they name, one after another; who claims a thing first holds it.
-use mathlib.Core.Bool.{Bool, true, false, cond}
-use mathlib.Core.List.{List, [], _∷_}
-use Prim.Native.Nat.{ℕ, zero, suc, _+_}
-use lib.Dec.{eqb}
-use lib.ListN.{length, getD, set, drop, replicate}
+-- Who holds what: a node its user, a branch its case, a method its class, a statement its method. The first row that names a
+-- thing holds it.
+use mathlib.Core.Bool.{Bool, true, false, cond, _&&_}
+use mathlib.Core.List.{List, [], _∷_, map}
+use Prim.Native.Nat.{ℕ, suc, _+_}
+use lib.Dec.{eqb, leb, ltb}
+use lib.ListN.{length, drop}
+use Rattle.std.specs.Iters.{counting}
 use Rattle.std.specs.declared.option.Option.{Option}
 use Rattle.std.specs.declared.option.Option.the-variants.{Some, None}
 use Rattle.tables.specs.declared.kinds.NodeKind.{NodeKind}
@@ -18,44 +19,32 @@ use Rattle.tables.specs.declared.rows.MethodRow.{MethodRow}
 use Rattle.tables.specs.declared.rows.NodeRow.{NodeRow}
 use Rattle.tables.specs.Kinds.{nodeKind}
 use Rattle.tables.specs.Layout.{Content}
+use Rattle.tables.specs.Least.{orElse}
 use Rattle.rules.specs.Uses.{functionUses, nodeUses, branchUses, statementUses}
-use Rattle.rules.specs.Words.{pastEnd}
+use Rattle.rules.specs.Words.{some}
 
--- the holder of each row of a table
+-- the holder of each row of a table, if it has one
 abbrev pub Holders : Type 0
 Holders = List (Option Place)
 
 abbrev pub place : Table → ℕ → Place
 place table row = record { table = table; row = row }
 
-abbrev pub nobody : {A : Type 0} → List A → Holders
-nobody xs = replicate (length xs) None
+-- the first row that passes the test, where the rows are counted from `r` on
+abbrev pub firstRow : {A : Type 0} → (A → Bool) → Table → ℕ → List A → Option Place
+firstRow test table r [] = None
+firstRow test table r (x ∷ xs) = cond (test x) (Some (place table r)) (firstRow test table (r + 1) xs)
 
--- the first where nobody holds the thing, else the second
-abbrev pub ifFree : Option Place → Holders → Holders → Holders
-ifFree None first second = first
-ifFree (Some holder) first second = second
+-- the thing `k` is one of these, or lies in a range
+abbrev pub among : ℕ → List ℕ → Bool
+among k is = some (eqb k) is
 
--- a claim of the thing `i`, if there is one
-abbrev pub claim : Place → Holders → ℕ → Holders
-claim by held i = ifFree (getD held i (Some by)) (set held i (Some by)) held
+abbrev pub inRange : ℕ → ℕ → ℕ → Bool
+inRange k first count = leb first k && ltb k (first + count)
 
-abbrev pub claimAll : Place → Holders → List ℕ → Holders
-claimAll by held [] = held
-claimAll by held (i ∷ is) = claimAll by (claim by held i) is
-
-abbrev pub claimRange : Place → Holders → ℕ → ℕ → Holders
-claimRange by held first zero = held
-claimRange by held first (suc count) = claimRange by (claim by held first) (first + 1) count
-
--- the claims of rows, from row `r` on
-abbrev pub claimRows : {A : Type 0} → (Holders → ℕ → A → Holders) → Holders → ℕ → List A → Holders
-claimRows claims held r [] = held
-claimRows claims held r (x ∷ xs) = claimRows claims (claims held r x) (r + 1) xs
-
--- how much of a range there is: all of it, or nothing where it passes the end
-abbrev pub extent : {A : Type 0} → ℕ → ℕ → List A → ℕ
-extent first count xs = cond (pastEnd first count xs) 0 count
+-- how much of a range there is in a table of `n` rows: all of it, or nothing where it passes the end
+abbrev pub extent : ℕ → ℕ → ℕ → ℕ
+extent first count n = cond (ltb n (first + count)) 0 count
 
 -- how many branches a case has, whose first is the first of these
 abbrev pub runLength : List BranchRow → ℕ
@@ -88,32 +77,36 @@ isCase (Some node.Variable) = false
 abbrev pub reach : List BranchRow → NodeRow → ℕ
 reach branches x = cond (isCase (nodeKind (x .kind))) (runLength (drop (x .reference) branches)) 0
 
--- What a row of each kind claims.
-abbrev pub claimUses : {A : Type 0} → Table → (A → List ℕ) → Holders → ℕ → A → Holders
-claimUses table uses held r x = claimAll (place table r) held (uses x)
+-- The user of a node, in the order functions, nodes, branches, statements.
+abbrev pub userOf : Content → ℕ → Option Place
+userOf m k =
+    orElse (firstRow (λ x. among k (functionUses x)) Functions 0 (m .functions))
+    (orElse (firstRow (λ x. among k (nodeUses x)) Nodes 0 (m .nodes))
+    (orElse (firstRow (λ x. among k (branchUses x)) Branches 0 (m .branches))
+    (firstRow (λ x. among k (statementUses x)) Statements 0 (m .statements))))
 
-abbrev pub claimBranches : List BranchRow → Holders → ℕ → NodeRow → Holders
-claimBranches branches held r x = claimRange (place Nodes r) held (x .reference) (reach branches x)
+-- The case of a branch, the class of a method, the method of a statement.
+abbrev pub reaches : List BranchRow → ℕ → NodeRow → Bool
+reaches branches k x = inRange k (x .reference) (reach branches x)
 
-abbrev pub claimMethods : Holders → ℕ → ClassRow → Holders
-claimMethods held r x = claimRange (place Classes r) held (x .«methods_first») (extent (x .«methods_first») (x .«methods_count») held)
+abbrev pub hasMethod : ℕ → ℕ → ClassRow → Bool
+hasMethod n k x = inRange k (x .«methods_first») (extent (x .«methods_first») (x .«methods_count») n)
 
-abbrev pub claimStatements : Holders → ℕ → MethodRow → Holders
-claimStatements held r x = claimRange (place Methods r) held (x .«statements_first») (extent (x .«statements_first») (x .«statements_count») held)
+abbrev pub hasStatement : ℕ → ℕ → MethodRow → Bool
+hasStatement n k x = inRange k (x .«statements_first») (extent (x .«statements_first») (x .«statements_count») n)
 
--- The users of the nodes, in the order functions, nodes, branches, statements.
+-- The holders of all rows of a table.
+abbrev pub holders : {A : Type 0} → (ℕ → Option Place) → List A → Holders
+holders holder xs = map holder (counting 0 (length xs))
+
 unfoldable pub nodeUsers : Content → Holders
-nodeUsers m =
-    let functions : Holders = claimRows (claimUses Functions functionUses) (nobody (m .nodes)) 0 (m .functions) in
-    let nodes : Holders = claimRows (claimUses Nodes nodeUses) functions 0 (m .nodes) in
-    let branches : Holders = claimRows (claimUses Branches branchUses) nodes 0 (m .branches) in
-    claimRows (claimUses Statements statementUses) branches 0 (m .statements)
+nodeUsers m = holders (userOf m) (m .nodes)
 
 unfoldable pub branchCases : Content → Holders
-branchCases m = claimRows (claimBranches (m .branches)) (nobody (m .branches)) 0 (m .nodes)
+branchCases m = holders (λ k. firstRow (reaches (m .branches) k) Nodes 0 (m .nodes)) (m .branches)
 
 unfoldable pub methodClasses : Content → Holders
-methodClasses m = claimRows claimMethods (nobody (m .methods)) 0 (m .classes)
+methodClasses m = holders (λ k. firstRow (hasMethod (length (m .methods)) k) Classes 0 (m .classes)) (m .methods)
 
 unfoldable pub statementMethods : Content → Holders
-statementMethods m = claimRows claimStatements (nobody (m .statements)) 0 (m .methods)
+statementMethods m = holders (λ k. firstRow (hasStatement (length (m .statements)) k) Methods 0 (m .methods)) (m .statements)

@@ -1,3 +1,4 @@
+pub mod Claims
 pub mod Holders
 pub mod Index
 pub mod Placement

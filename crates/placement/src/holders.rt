@@ -14,7 +14,8 @@ ghost use Rattle.tables.specs.Layout.{content};
 ghost use Rattle.placement.specs.Index.{Indexes};
 ghost use Rattle.tables.specs.Kinds.{nodeKind};
 ghost use Rattle.tables.specs.declared.place.Place.{Place};
-ghost use Rattle.placement.specs.Holders.{claim, claimAll, claimRange, claimRows, runLength, isCase, reach, claimUses, claimBranches, claimMethods, claimStatements, nodeUsers, branchCases, methodClasses, statementMethods};
+ghost use Rattle.placement.specs.Claims.{claim, claimAll, claimRange, claimRows, claimUses, claimBranches, claimMethods, claimStatements, claimedUsers, claimedCases, claimedClasses, claimedMethods};
+ghost use Rattle.placement.specs.Holders.{extent, runLength, isCase, reach, methodClasses};
 use crate::index::Index;
 use rules::uses::BranchUser;
 use rules::uses::FunctionUser;
@@ -148,7 +149,7 @@ struct MethodsHad;
 
 /// The part of a range that there is: all of it, or nothing where it passes the end.
 fn extent_within(first: u16, count: u16, rows: usize) -> usize
-    ensures extent { λ r. ⌜ r ≡ cond (ltb rows (first + count)) 0 count ⌝ }
+    ensures extent { λ r. ⌜ r ≡ extent first count rows ⌝ }
 {
     if first as usize + count as usize > rows {
         return 0;
@@ -192,8 +193,8 @@ fn nobody(heap: Global, rows: usize) -> Result<Vec<Option<Place>>, AllocError>
     vec![in heap; None; rows]
 }
 
-fn node_users(heap: Global, t: &Tables) -> Result<Vec<Option<Place>>, AllocError>
-    ensures users { λ r. ⌜ made r (λ v. vec-items v ≡ nodeUsers (content (now (t .entry)))) ⌝ }
+fn claimed_users(heap: Global, t: &Tables) -> Result<Vec<Option<Place>>, AllocError>
+    ensures users { λ r. ⌜ made r (λ v. vec-items v ≡ claimedUsers (content (now (t .entry)))) ⌝ }
 {
     let mut held = nobody(heap, t.nodes.len())?;
     claim_rows(
@@ -215,8 +216,8 @@ fn node_users(heap: Global, t: &Tables) -> Result<Vec<Option<Place>>, AllocError
     Ok(held)
 }
 
-fn branch_cases(heap: Global, t: &Tables) -> Result<Vec<Option<Place>>, AllocError>
-    ensures cases { λ r. ⌜ made r (λ v. vec-items v ≡ branchCases (content (now (t .entry)))) ⌝ }
+fn claimed_cases(heap: Global, t: &Tables) -> Result<Vec<Option<Place>>, AllocError>
+    ensures cases { λ r. ⌜ made r (λ v. vec-items v ≡ claimedCases (content (now (t .entry)))) ⌝ }
 {
     let mut held = nobody(heap, t.branches.len())?;
     claim_rows(
@@ -227,21 +228,28 @@ fn branch_cases(heap: Global, t: &Tables) -> Result<Vec<Option<Place>>, AllocErr
     Ok(held)
 }
 
-/// The class of each method.
-pub fn method_classes(heap: Global, t: &Tables) -> Result<Vec<Option<Place>>, AllocError>
-    ensures classes { λ r. ⌜ made r (λ v. vec-items v ≡ methodClasses (content (now (t .entry)))) ⌝ }
+fn claimed_classes(heap: Global, t: &Tables) -> Result<Vec<Option<Place>>, AllocError>
+    ensures classes { λ r. ⌜ made r (λ v. vec-items v ≡ claimedClasses (content (now (t .entry)))) ⌝ }
 {
     let mut held = nobody(heap, t.methods.len())?;
     claim_rows(&mut held, t.classes.as_slice(), &MethodsHad);
     Ok(held)
 }
 
-fn statement_methods(heap: Global, t: &Tables) -> Result<Vec<Option<Place>>, AllocError>
-    ensures methods { λ r. ⌜ made r (λ v. vec-items v ≡ statementMethods (content (now (t .entry)))) ⌝ }
+fn claimed_methods(heap: Global, t: &Tables) -> Result<Vec<Option<Place>>, AllocError>
+    ensures methods { λ r. ⌜ made r (λ v. vec-items v ≡ claimedMethods (content (now (t .entry)))) ⌝ }
 {
     let mut held = nobody(heap, t.statements.len())?;
     claim_rows(&mut held, t.methods.as_slice(), &StatementsHad);
     Ok(held)
+}
+
+/// The class of each method, if it has one.
+pub fn method_classes(heap: Global, t: &Tables) -> Result<Vec<Option<Place>>, AllocError>
+    ensures classes { λ r. ⌜ made r (λ v. vec-items v ≡ methodClasses (content (now (t .entry)))) ⌝ }
+{
+    let classes = claimed_classes(heap, t)?;
+    Ok(classes)
 }
 
 impl Index {
@@ -249,10 +257,10 @@ impl Index {
         ensures indexes { λ r. ⌜ made r (Indexes (content (now (t .entry)))) ⌝ }
     {
         Ok(Index {
-            users: node_users(heap, t)?,
-            cases: branch_cases(heap, t)?,
-            classes: method_classes(heap, t)?,
-            methods: statement_methods(heap, t)?,
+            users: claimed_users(heap, t)?,
+            cases: claimed_cases(heap, t)?,
+            classes: claimed_classes(heap, t)?,
+            methods: claimed_methods(heap, t)?,
         })
     }
 }

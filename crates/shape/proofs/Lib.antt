@@ -1,2 +1,3 @@
 mod SameTypes
+mod Shared
 mod Tables

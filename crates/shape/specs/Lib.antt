@@ -1,2 +1,3 @@
+pub mod Earliest
 pub mod Methods
 pub mod Shape

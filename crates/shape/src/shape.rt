@@ -1,12 +1,13 @@
 //! Rule 5, Shape: whether types, names, defaults, classes and methods have their shape.
-ghost use mathlib.Core.Bool.{Bool, true, false};
+ghost use mathlib.Core.Bool.{Bool, true, false, cond};
 ghost use mathlib.Core.Path.{_≡_};
-ghost use Prim.Native.Nat.{ℕ};
+ghost use Prim.Native.Nat.{ℕ, _≤_, min};
+ghost use Rattle.shape.specs.Earliest.{holdsRow, earliestFrom};
 ghost use lib.Dec.{eqb};
 ghost use denote.Ref.{now};
 ghost use Rattle.std.specs.declared.option.Option.the-variants.{None};
 ghost use Rattle.tables.specs.Layout.{content};
-ghost use Rattle.shape.specs.Shape.{typeShape, constructorShape, sharesName, signatureShape, notInterface, notMain, notFirst, classShape, notPlain, outsideMethodShape, insideMethodShape, repeatsName, methodShapeIn, methodShapeOf, methodShape, classFault, faultsIn, shapeBroken};
+ghost use Rattle.shape.specs.Shape.{typeShape, constructorShape, signatureShape, notInterface, notMain, notFirst, classShape, notPlain, outsideMethodShape, insideMethodShape, repeatsName, methodShapeIn, methodShapeOf, methodShape, classFault, faultsIn, shapeBroken};
 ghost use Rattle.std.specs.Vec.{made};
 ghost use Rattle.rules.specs.Faults.{ruleFault, places};
 ghost use Rattle.rules.specs.Words.{some, part};
@@ -103,38 +104,39 @@ impl Test<MethodRow> for Named as MethodNamed {
     }
 }
 
-/// Interfaces that hold this signature and an earlier one of its name.
-#[derive(Clone, Copy)]
-struct SharesName<'a> {
-    t: &'a Tables,
-    row: usize,
-    signature: SignatureRow,
+/// The lower of this row and the interface's first, where the interface holds the row.
+fn lowered(low: usize, row: usize, interface: InterfaceRow) -> usize
+    ensures lowered { λ r. ⌜ r ≡ cond (holdsRow row interface) (min low (interface .first)) low ⌝ }
+    ensures below { λ r. ⌜ r ≤ low ⌝ }
+{
+    let first = interface.first as usize;
+    if first <= row && row < first + interface.count as usize {
+        return low.min(first);
+    }
+    low
 }
 
-impl Test<InterfaceRow> for SharesName<'_> as SharesNameTest {
-    ghost holds = { λ s i. sharesName (content (now (s .t))) (s .row) (s .signature) i };
-
-    fn holds(&self, interface: InterfaceRow) -> bool {
-        let first = interface.first as usize;
-        first <= self.row
-            && self.row < first + interface.count as usize
-            && any(
-                part(self.t.signatures.as_slice(), first, self.row - first),
-                &Named(self.signature.name),
-            )
+/// The earliest signature that an interface holds together with this one, or this one.
+fn earliest(interfaces: &[InterfaceRow], row: usize) -> usize
+    ensures earliest { λ r. ⌜ r ≡ earliestFrom row row (now (interfaces .entry)) ⌝ }
+    ensures below { λ r. ⌜ r ≤ row ⌝ }
+{
+    let mut low = row;
+    for interface in interfaces {
+        low = lowered(low, row, *interface);
     }
+    low
 }
 
 impl RowTest<SignatureRow> for ShapeRule<'_> as SignatureShape {
     ghost broken = { λ s r x. signatureShape (content (now (s .t))) r x };
 
     fn breaks(&self, row: usize, x: SignatureRow) -> bool {
-        let shares = SharesName {
-            t: self.t,
-            row,
-            signature: x,
-        };
-        any(self.t.interfaces.as_slice(), &shares)
+        let first = earliest(self.t.interfaces.as_slice(), row);
+        any(
+            part(self.t.signatures.as_slice(), first, row - first),
+            &Named(x.name),
+        )
     }
 }
 

@@ -1,7 +1,7 @@
 use mathlib.Core.Path.{_≡_}
 use lib.ListN.{drop}
 use Rattle.std.specs.Of.Vec.{vec-items}
-use Rattle.placement.specs.Holders.{claimAll}
+use Rattle.placement.specs.Claims.{claimAll}
 use Rattle.placement.proofs.holders.claim_all.Given as given
 
 -- the claims that are left lead to the same holders as all of them

@@ -1,7 +1,7 @@
 use mathlib.Core.Path.{_≡_}
 use Prim.Native.Nat.{_+_, _-_}
 use Rattle.std.specs.Of.Vec.{vec-items}
-use Rattle.placement.specs.Holders.{claimRange}
+use Rattle.placement.specs.Claims.{claimRange}
 use Rattle.placement.proofs.holders.claim_range.Given as given
 
 -- the claims that are left lead to the same holders as all of them

@@ -1,7 +1,7 @@
 use mathlib.Core.Path.{_≡_}
 use lib.ListN.{drop}
 use Rattle.std.specs.Of.Vec.{vec-items}
-use Rattle.placement.specs.Holders.{claimRows}
+use Rattle.placement.specs.Claims.{claimRows}
 use Rattle.placement.proofs.holders.claim_rows.Given as given
 
 -- the rows that are left lead to the same holders as all of them

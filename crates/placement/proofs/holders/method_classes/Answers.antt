@@ -1,7 +1,7 @@
-use borrow.Author.Needs.{needs}
-use Rattle.placement.specs.Holders.{methodClasses}
+use mathlib.Core.Path.{_∙_}
+use Rattle.tables.specs.Layout.{content}
+use Rattle.placement.proofs.Held.{classes-hold}
 use Rattle.placement.proofs.holders.method_classes.Needs as need
 
 pub returns : need.returns
-unfolding methodClasses
-returns c = search needs
+returns c = record { classes = c .in-Continue-classes .ensures tt .classes ∙ classes-hold (content (c .args .t .now)) }
