@@ -3,6 +3,8 @@
 //! A blank line and a line that begins with `#` are passed over. Any other line is a case, `NAME: ITEMS`, with spaces between the
 //! items: they spell the bytes of an input, as the module `text` says. The verdict on it is a line `NAME: read` or
 //! `NAME: refused NUMBER TABLE ROW`, or `NAME: not a case` where the line is not of this form.
+#![tactic(auto)]
+
 mod text;
 
 use anyhow::anyhow;

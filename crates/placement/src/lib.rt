@@ -1,4 +1,6 @@
 //! Rule 4, Placement: whether a row stands too low for what it names, or names what has another place.
+#![tactic(auto)]
+
 ghost use Rattle.std.specs.Prelude.{◌≡◌, ℕ, Bool, List, IfOk, None, ◌==◌, slice_index_or};
 ghost use Rattle.tables.specs.Layout.{content};
 ghost use Rattle.rules.specs.Uses.{branch_uses};

@@ -1,4 +1,6 @@
 //! Rule 3, Range: whether a row has a kind, a flag, a count, a limit, a row or a range that is not there.
+#![tactic(auto)]
+
 ghost use Rattle.std.specs.Prelude.{◌≡◌, ℕ, ◌+◌, ◌<◌, Bool, List, length, ◌==◌, nat_lt};
 ghost use Rattle.tables.specs.Layout.{content};
 ghost use Rattle.range.specs.Range.{type_range, list_range, parameters_range, slots_range, constructor_range, uses_absent, function_range, interface_range, signature_range, class_range, method_range, node_counts, wrong_count, node_absent, node_range, branch_range, statement_counts, statement_absent, statement_range, range_broken, range_faults};

@@ -1,4 +1,6 @@
 //! What the rows of a model say: types, nodes and statements as enums of the subject.
+#![tactic(auto)]
+
 pub mod nodes;
 pub mod rows;
 pub mod statements;

@@ -1,4 +1,6 @@
 //! The typing rules: the type of an expression, what a pattern binds, and whether functions and statements have a type.
+#![tactic(auto)]
+
 mod calls;
 mod declared;
 mod expressions;

@@ -1,4 +1,6 @@
 //! Reads a model from standard input and prints the verdict on it.
+#![tactic(auto)]
+
 use anyhow::anyhow;
 use model::input::Input;
 use std::io;

@@ -5,5 +5,5 @@ use Rattle.placement.proofs.first_fault.Goals as goal
 
 pub returns : goal.returns
 returns c = record {
-  first = c.first-table.ensures.first ∙ rule_fault_lem (content c.args.t.now) c.in-ok-index.index c.in-ok-index.ensures.indexes;
+  first = c.first_table.ensures.first ∙ rule_fault_lem (content c.args.t.now) c.in_ok-index.index c.in_ok-index.ensures.indexes;
 }

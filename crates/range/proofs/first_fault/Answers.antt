@@ -4,4 +4,4 @@ use Rattle.range.proofs.Tables.{rule_fault_lem}
 use Rattle.range.proofs.first_fault.Goals as goal
 
 pub returns : goal.returns
-returns c = record { first = c.first-table.ensures.first ∙ rule_fault_lem (content c.args.t.now) }
+returns c = record { first = c.first_table.ensures.first ∙ rule_fault_lem (content c.args.t.now) }

@@ -6,6 +6,6 @@ pub returns : goal.returns
 returns c =
     let tail = tail_clamped c.args.branches.now c.args.x.reference c.min-first.result c.min-first.ensures in
     record {
-      reach = rw (sym c.if-not-is-case.ensures.case) (rw tail at c.run-length.ensures.length);
-      within = omega (arith, simp (length-take, length-drop) at c.run-length.ensures.within);
+      reach = rw (sym c.if-not-is_case.ensures.case) (rw tail at c.run_length.ensures.length);
+      within = omega (arith, simp (length-take, length-drop) at c.run_length.ensures.within);
     }

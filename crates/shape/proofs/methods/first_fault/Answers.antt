@@ -4,4 +4,4 @@ use Rattle.shape.proofs.Tables.{method_fault}
 use Rattle.shape.proofs.methods.first_fault.Goals as goal
 
 pub returns : goal.returns
-returns c = record { first = c.first-table.ensures.first ∙ method_fault (content c.args.t.now) }
+returns c = record { first = c.first_table.ensures.first ∙ method_fault (content c.args.t.now) }

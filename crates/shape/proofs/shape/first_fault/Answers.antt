@@ -9,5 +9,5 @@ use Rattle.shape.proofs.shape.first_fault.Goals as goal
 pub returns : goal.returns
 returns c =
     let m = content c.args.t.now in
-    let same = c.as-slice.ensures.value ∙ c.in-ok-classes.ensures.classes in
-    record { first = c.first-table.ensures.first ∙ ap (λ (classes : Holders). first_in (faults_in m classes) all_tables) same ∙ shape_fault m }
+    let same = c.as_slice.ensures.value ∙ c.in_ok-classes.ensures.classes in
+    record { first = c.first_table.ensures.first ∙ ap (λ (classes : Holders). first_in (faults_in m classes) all_tables) same ∙ shape_fault m }

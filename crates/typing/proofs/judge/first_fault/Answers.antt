@@ -3,16 +3,16 @@ use Rattle.tables.specs.Layout.{content}
 use Rattle.typing.proofs.Verdicts.{function_decides, statement_decides}
 use Rattle.typing.proofs.judge.first_fault.Goals as goal
 
-pub returns-then-is-some : goal.returns-then-is-some
-returns-then-is-some c = record {
-  first = function_decides (content c.args.t.now) c.as-slice-3.result.now c.first-row-untyped.result c.as-slice-3.ensures.value c.first-row-untyped.ensures.first
-      c.if-is-some.ensures;
+pub returns-then-is_some : goal.returns-then-is_some
+returns-then-is_some c = record {
+  first = function_decides (content c.args.t.now) c.as_slice-3.result.now c.first_row-untyped.result c.as_slice-3.ensures.value c.first_row-untyped.ensures.first
+      c.if-is_some.ensures;
 }
 
 pub returns : goal.returns
 returns c = record {
-  first = statement_decides (content c.args.t.now) c.as-slice-3.result.now c.first-row-untyped.result c.as-slice-3.ensures.value c.first-row-untyped.ensures.first
-      c.if-is-some.ensures c.as-slice-4.result.now c.as-slice.result.now c.as-slice-2.result.now c.first-row.result c.as-slice-4.ensures.value
-      (c.as-slice.ensures.value ∙ c.in-ok-methods.ensures.methods) (c.as-slice-2.ensures.value ∙ c.in-ok-classes.ensures.classes)
-      c.first-row.ensures.first;
+  first = statement_decides (content c.args.t.now) c.as_slice-3.result.now c.first_row-untyped.result c.as_slice-3.ensures.value c.first_row-untyped.ensures.first
+      c.if-is_some.ensures c.as_slice-4.result.now c.as_slice.result.now c.as_slice-2.result.now c.first_row.result c.as_slice-4.ensures.value
+      (c.as_slice.ensures.value ∙ c.in_ok-methods.ensures.methods) (c.as_slice-2.ensures.value ∙ c.in_ok-classes.ensures.classes)
+      c.first_row.ensures.first;
 }

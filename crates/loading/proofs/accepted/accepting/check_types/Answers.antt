@@ -15,11 +15,11 @@ told given own found v same first is = ap (λ (t : Tables). typing_verdict (cont
 pub returns-in-Some : goal.returns-in-Some
 returns-in-Some c =
     let own = c.args.model.now.tables in
-    let h = told c.tables.result.now own c.in-ok-fault.field-0 (Some c.in-Some.fault) c.tables.ensures.tables c.in-ok-fault.ensures.first c.in-Some.is in
+    let h = told c.tables.result.now own c.in_ok-fault.field-0 (Some c.in-Some.fault) c.tables.ensures.tables c.in_ok-fault.ensures.first c.in-Some.is in
     record { checked = h; least = judge_types (content own) (Err (Refused c.in-Some.fault)) h }
 
 pub returns-in-None : goal.returns-in-None
 returns-in-None c =
     let own = c.args.model.now.tables in
-    let h = told c.tables.result.now own c.in-ok-fault.field-0 None c.tables.ensures.tables c.in-ok-fault.ensures.first c.in-None.is in
+    let h = told c.tables.result.now own c.in_ok-fault.field-0 None c.tables.ensures.tables c.in_ok-fault.ensures.first c.in-None.is in
     record { checked = h; least = judge_types (content own) (Ok tt) h }

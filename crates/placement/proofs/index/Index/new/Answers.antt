@@ -8,9 +8,9 @@ returns c =
     let m = content c.args.t.now in
     record {
       indexes = record {
-        users = c.in-ok-claimed-users.ensures.users ∙ users_hold m;
-        cases = c.in-ok-claimed-cases.ensures.cases ∙ cases_hold m;
-        classes = c.in-ok-claimed-classes.ensures.classes ∙ classes_hold m;
-        methods = c.in-ok-claimed-methods.ensures.methods ∙ methods_hold m;
+        users = c.in_ok-claimed_users.ensures.users ∙ users_hold m;
+        cases = c.in_ok-claimed_cases.ensures.cases ∙ cases_hold m;
+        classes = c.in_ok-claimed_classes.ensures.classes ∙ classes_hold m;
+        methods = c.in_ok-claimed_methods.ensures.methods ∙ methods_hold m;
       };
     }

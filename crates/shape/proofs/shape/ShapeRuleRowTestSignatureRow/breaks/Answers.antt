@@ -9,7 +9,7 @@ pub returns : goal.returns
 returns c =
     let first = c.earliest-first.result in
     record {
-      broken = signature_judged (content c.args.self.now.t.now) c.args.row c.args.x first c.as-slice.result.now c.part.result.now
-          c.any.result c.as-slice.ensures.value c.earliest-first.ensures.earliest
-          (c.part.ensures.part ∙ ap (λ (ys : List SignatureRow). part first (c.args.row - first) ys) c.as-slice-2.ensures.value) c.any.ensures.some;
+      broken = signature_judged (content c.args.self.now.t.now) c.args.row c.args.x first c.as_slice.result.now c.part.result.now
+          c.any.result c.as_slice.ensures.value c.earliest-first.ensures.earliest
+          (c.part.ensures.part ∙ ap (λ (ys : List SignatureRow). part first (c.args.row - first) ys) c.as_slice-2.ensures.value) c.any.ensures.some;
     }

@@ -3,22 +3,22 @@ use Rattle.tables.specs.Layout.{cells_of, content}
 use Rattle.tables.proofs.Header.{enough, keeps, whole}
 use Rattle.tables.proofs.tables.Tables.read.Goals as goal
 
-pub cut-tables-requires : goal.cut-tables-requires
-cut-tables-requires c =
-    let fill : 27 + 2 * cells_of c.in-ok-counts.counts ≡ length c.args.bytes.now = omega (arith, c.if-cells-bytes.false, c.cells.ensures.cells) in
-    let read = ap length (c.as-slice.ensures.value ∙ c.in-ok-cells.ensures.spelled) ∙ enough c.args.bytes.now _ fill in
+pub cut_tables-requires : goal.cut_tables-requires
+cut_tables-requires c =
+    let fill : 27 + 2 * cells_of c.in_ok-counts.counts ≡ length c.args.bytes.now = omega (arith, c.if-cells-bytes.false, c.cells.ensures.cells) in
+    let read = ap length (c.as_slice.ensures.value ∙ c.in_ok-cells.ensures.spelled) ∙ enough c.args.bytes.now _ fill in
     omega (arith, read)
 
 pub returns : goal.returns
 returns c =
-    let counts = c.in-ok-counts.counts in
+    let counts = c.in_ok-counts.counts in
     let bytes = c.args.bytes.now in
     let fill : 27 + 2 * cells_of counts ≡ length bytes = omega (arith, c.if-cells-bytes.false, c.cells.ensures.cells) in
-    let stated = c.in-ok-counts.ensures.counts in
-    let cells = c.as-slice.ensures.value ∙ c.in-ok-cells.ensures.spelled in
+    let stated = c.in_ok-counts.ensures.counts in
+    let cells = c.as_slice.ensures.value ∙ c.in_ok-cells.ensures.spelled in
     record {
       reads = (
-        keeps bytes counts c.if-wrong-length.ensures.length stated c.if-over-limit.ensures.limits fill,
-        whole bytes counts (content c.in-ok-cut-tables.field-0) stated (rw cells at c.in-ok-cut-tables.ensures.cut),
+        keeps bytes counts c.if-wrong_length.ensures.length stated c.if-over_limit.ensures.limits fill,
+        whole bytes counts (content c.in_ok-cut_tables.field-0) stated (rw cells at c.in_ok-cut_tables.ensures.cut),
       );
     }

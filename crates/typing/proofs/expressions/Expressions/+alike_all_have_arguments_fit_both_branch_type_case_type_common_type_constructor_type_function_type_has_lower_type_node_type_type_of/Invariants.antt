@@ -4,32 +4,32 @@ use Rattle.typing.specs.Views.{bindings_of, tables_of, lower_types}
 use Rattle.typing.proofs.expressions.Expressions.+alike_all_have_arguments_fit_both_branch_type_case_type_common_type_constructor_type_function_type_has_lower_type_node_type_type_of.Given as goal
 
 -- the row falls from an expression to its children; within a row the calls go in this order
-abbrev pub decreases-type-of : goal.decreases-type-of
-decreases-type-of l = 16 * l.row + 15
+abbrev pub decreases-type_of : goal.decreases-type_of
+decreases-type_of l = 16 * l.row + 15
 
-abbrev pub decreases-node-type : goal.decreases-node-type
-decreases-node-type l = 16 * l.row + 14
+abbrev pub decreases-node_type : goal.decreases-node_type
+decreases-node_type l = 16 * l.row + 14
 
-abbrev pub decreases-case-type : goal.decreases-case-type
-decreases-case-type l = 16 * l.row + 13
+abbrev pub decreases-case_type : goal.decreases-case_type
+decreases-case_type l = 16 * l.row + 13
 
-abbrev pub decreases-common-type : goal.decreases-common-type
-decreases-common-type l = 16 * l.row + 12
+abbrev pub decreases-common_type : goal.decreases-common_type
+decreases-common_type l = 16 * l.row + 12
 
-abbrev pub decreases-all-have : goal.decreases-all-have
-decreases-all-have l = 16 * l.row + 11
+abbrev pub decreases-all_have : goal.decreases-all_have
+decreases-all_have l = 16 * l.row + 11
 
-abbrev pub decreases-branch-type : goal.decreases-branch-type
-decreases-branch-type l = 16 * l.row + 10
+abbrev pub decreases-branch_type : goal.decreases-branch_type
+decreases-branch_type l = 16 * l.row + 10
 
-abbrev pub decreases-constructor-type : goal.decreases-constructor-type
-decreases-constructor-type l = 16 * l.row + 13
+abbrev pub decreases-constructor_type : goal.decreases-constructor_type
+decreases-constructor_type l = 16 * l.row + 13
 
-abbrev pub decreases-function-type : goal.decreases-function-type
-decreases-function-type l = 16 * l.row + 13
+abbrev pub decreases-function_type : goal.decreases-function_type
+decreases-function_type l = 16 * l.row + 13
 
-abbrev pub decreases-arguments-fit : goal.decreases-arguments-fit
-decreases-arguments-fit l = 16 * l.row + 12
+abbrev pub decreases-arguments_fit : goal.decreases-arguments_fit
+decreases-arguments_fit l = 16 * l.row + 12
 
 abbrev pub decreases-both : goal.decreases-both
 decreases-both l = 16 * l.row + 13
@@ -40,19 +40,19 @@ decreases-alike l = 16 * l.row + 13
 abbrev pub decreases-has : goal.decreases-has
 decreases-has l = 16 * l.row + 2
 
-abbrev pub decreases-lower-type : goal.decreases-lower-type
-decreases-lower-type l = 16 * l.row + 1
+abbrev pub decreases-lower_type : goal.decreases-lower_type
+decreases-lower_type l = 16 * l.row + 1
 
 -- the branches that are left have the type exactly if all have it, and the scope is as it was
-abbrev pub invariant-all-have-loop-branch : goal.invariant-all-have-loop-branch
-invariant-all-have-loop-branch l =
+abbrev pub invariant-all_have-loop-branch : goal.invariant-all_have-loop-branch
+invariant-all_have-loop-branch l =
     (all_have (tables_of l.self) l.self.within (lower_types l.self l.row) l.case.function (bindings_of l.initial.scope) l.case.to l.common (drop l.branch-index l.branches)
     ≡ all_have (tables_of l.self) l.self.within (lower_types l.self l.row) l.case.function (bindings_of l.initial.scope) l.case.to l.common l.branches)
     × (bindings_of l.scope ≡ bindings_of l.initial.scope)
 
 -- the arguments that are left fit exactly if all do, and the scope is as it was
-abbrev pub invariant-arguments-fit-loop-i : goal.invariant-arguments-fit-loop-i
-invariant-arguments-fit-loop-i l =
+abbrev pub invariant-arguments_fit-loop-i : goal.invariant-arguments_fit-loop-i
+invariant-arguments_fit-loop-i l =
     (arguments_fit (tables_of l.self) l.self.within (lower_types l.self l.row) (bindings_of l.initial.scope) (drop l.i l.arguments) (drop l.i l.parameters)
     ≡ arguments_fit (tables_of l.self) l.self.within (lower_types l.self l.row) (bindings_of l.initial.scope) l.arguments l.parameters)
     × (bindings_of l.scope ≡ bindings_of l.initial.scope)

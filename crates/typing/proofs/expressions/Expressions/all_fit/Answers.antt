@@ -7,7 +7,7 @@ use Rattle.typing.proofs.expressions.Expressions.all_fit.Goals as goal
 pub returns : goal.returns
 returns c =
     let e = c.args.self.now in
-    let gave = c.arguments-fit.ensures.gives in
+    let gave = c.arguments_fit.ensures.gives in
     record {
       gives = record {
         value = gave.value ∙ arguments_above (tables_of e) e.within (type_in (tables_of e) e.within) (bindings_of c.args.scope.now) c.args.arguments.now c.args.parameters.now

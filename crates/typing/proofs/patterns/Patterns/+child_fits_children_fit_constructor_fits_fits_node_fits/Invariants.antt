@@ -8,21 +8,21 @@ use Rattle.typing.proofs.patterns.Patterns.+child_fits_children_fit_constructor_
 abbrev pub decreases-fits : goal.decreases-fits
 decreases-fits l = 5 * l.row + 4
 
-abbrev pub decreases-node-fits : goal.decreases-node-fits
-decreases-node-fits l = 5 * l.row + 3
+abbrev pub decreases-node_fits : goal.decreases-node_fits
+decreases-node_fits l = 5 * l.row + 3
 
-abbrev pub decreases-constructor-fits : goal.decreases-constructor-fits
-decreases-constructor-fits l = 5 * l.row + 2
+abbrev pub decreases-constructor_fits : goal.decreases-constructor_fits
+decreases-constructor_fits l = 5 * l.row + 2
 
-abbrev pub decreases-children-fit : goal.decreases-children-fit
-decreases-children-fit l = 5 * l.row + 1
+abbrev pub decreases-children_fit : goal.decreases-children_fit
+decreases-children_fit l = 5 * l.row + 1
 
-abbrev pub decreases-child-fits : goal.decreases-child-fits
-decreases-child-fits l = 5 * l.row
+abbrev pub decreases-child_fits : goal.decreases-child_fits
+decreases-child_fits l = 5 * l.row
 
 -- what is behind the children that are left is behind them all, and bindings were only added
-abbrev pub invariant-children-fit-loop-i : goal.invariant-children-fit-loop-i
-invariant-children-fit-loop-i l =
+abbrev pub invariant-children_fit-loop-i : goal.invariant-children_fit-loop-i
+invariant-children_fit-loop-i l =
     (children_scope (model_of l.self) l.self.function (lower_scopes l.self l.row) (bindings_of l.scope) (drop l.i l.children) (drop l.i l.parameters)
     ≡ children_scope (model_of l.self) l.self.function (lower_scopes l.self l.row) (bindings_of l.initial.scope) l.children l.parameters)
     × ((newer : Bindings) × (bindings_of l.scope ≡ newer ++ bindings_of l.initial.scope))

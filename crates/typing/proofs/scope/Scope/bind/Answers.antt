@@ -7,7 +7,7 @@ pub invariant-of-self : goal.invariant-of-self
 invariant-of-self c =
     let scope = c.args.self.now in
     let s = bound scope.mapping.now in
-    let none = not_found c.args.slot s c.find.result c.find.ensures.found c.if-is-some.ensures in
+    let none = not_found c.args.slot s c.find.result c.find.ensures.found c.if-is_some.ensures in
     let made = bind_free_lem c.args.slot c.args.to s (bound c.bind.new.self) (is_ok c.bind.result) (capacity scope.mapping.now)
     c.requires.slot none scope.once scope.memory c.bind.ensures.full c.bind.ensures.newest in
     (rw made (once_bound _ s c.requires.slot none scope.once), (rw c.bind.ensures.capacity scope.memory, tt))
@@ -16,7 +16,7 @@ pub returns : goal.returns
 returns c =
     let scope = c.args.self.now in
     let s = bound scope.mapping.now in
-    let none = not_found c.args.slot s c.find.result c.find.ensures.found c.if-is-some.ensures in
+    let none = not_found c.args.slot s c.find.result c.find.ensures.found c.if-is_some.ensures in
     record {
       bound = rw none (bind_free_lem c.args.slot c.args.to s (bound c.bind.new.self) (is_ok c.bind.result) (capacity scope.mapping.now)
           c.requires.slot none scope.once scope.memory c.bind.ensures.full c.bind.ensures.newest);
