@@ -176,7 +176,7 @@ fn nobody(heap: Global, rows: usize) -> Result<Vec<Option<Place>>, AllocError>
 }
 
 fn claimed_users(heap: Global, t: &Tables) -> Result<Vec<Option<Place>>, AllocError>
-    ensures users { made result (λ v. v.items ≡ claimed_users (content t.now)) }
+    ensures users { IfOk result (λ v. v.items ≡ claimed_users (content t.now)) }
 {
     let mut held = nobody(heap, t.nodes.len())?;
     claim_rows(
