@@ -1,5 +1,5 @@
 -- The header's rules come first, and no row breaks one of them; then the rules of the tables decide, one after another.
-use Rattle.std.proofs.Common.{◌≡◌, ℕ, Bool, true, false, cond, not, List, [], ◌∷◌, is_some, Some, None, Ok, Err, vec_items, Option, Result, Vec, sym, refl, ap, ◌∙◌, subst, inl, inr, arith, lit≤}
+use Rattle.std.proofs.Common.{◌≡◌, ℕ, Bool, true, false, cond, not, List, is_some, Some, None, Ok, Err, vec_items, Option, Result, Vec, sym, refl, ap, ◌∙◌, inl, inr, lit≤}
 use Rattle.std.proofs.lemmas.Bool.{both_ways}
 use Rattle.std.specs.declared.alloc.Global.{Global}
 use Rattle.tables.specs.declared.place.Fault.{Fault}
@@ -11,14 +11,14 @@ use Rattle.tables.specs.declared.read.ReadError.{ReadError}
 use Rattle.tables.specs.declared.read.ReadError.TheVariants.{NoMemory, Refused}
 use Rattle.tables.specs.declared.tables.Tables.{Tables}
 use Rattle.tables.specs.Layout.{Content, wrong_length, wrong_counts, content, content_of}
-use Rattle.tables.specs.Least.{fault, or_else, first_in, under_rule, verdict_of, Judges}
+use Rattle.tables.specs.Least.{or_else, under_rule, verdict_of, Judges}
 use Rattle.tables.specs.Places.{rule_number}
 use Rattle.tables.specs.Reading.{header_fault, header_verdict, Reads}
 use Rattle.tables.proofs.First.{In, Rising, some_none}
 use Rattle.tables.proofs.Least.{none_rule, judges}
 use Rattle.model.specs.declared.model.ReadModel.{ReadModel}
 use Rattle.model.specs.Reading.{Checks, JudgesBytes, ReadsModel, table_faults}
-use Rattle.model.specs.Rules.{at_header, broken, all_rules, judged_with, case_of, verdict_in, keeps_rules}
+use Rattle.model.specs.Rules.{at_header, all_rules, judged_with, case_of, verdict_in, keeps_rules}
 
 sound_header : (t : Table) → at_header false t ≡ false
 sound_header table.Header = refl

@@ -1,5 +1,5 @@
 -- An input that is taken in piece by piece.
-use Rattle.std.proofs.Common.{◌≡◌, ℕ, zero, suc, ◌+◌, ◌-◌, ◌*◌, ◌^◌, ◌<◌, ◌≤◌, min, Bool, true, false, not, ◌||◌, eqb, ltb, List, [], ◌∷◌, ◌++◌, length, get_or, take, Some, vec_items, sym, refl, ap, ◌∙◌, inl, inr, arith, lit<, lit≤, length-append, length-take}
+use Rattle.std.proofs.Common.{◌≡◌, ℕ, zero, suc, ◌+◌, ◌-◌, ◌*◌, ◌^◌, ◌<◌, ◌≤◌, min, true, false, not, ◌||◌, eqb, ltb, List, [], ◌∷◌, ◌++◌, length, get_or, take, Some, vec_items, sym, refl, ap, ◌∙◌, inl, inr, arith, lit<, lit≤, length-append, length-take}
 use Rattle.std.proofs.lemmas.Bool.Decides.{nat_tests}
 use Rattle.std.proofs.lemmas.List.{take_all, take-take, get_or-take}
 use Rattle.std.proofs.lemmas.Bool.{or_left, or_right, not_from_false, cases_Bool, le-ltb, eq-eqb, ne_eqb}

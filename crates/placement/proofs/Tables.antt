@@ -1,9 +1,7 @@
 -- The faults of each table are those of its broken places.
-use Rattle.std.proofs.Common.{◌≡◌, ℕ, cond, length, Some, None, vec_items, Option, refl, ◌∙◌}
-use Rattle.tables.specs.declared.place.Fault.{Fault}
+use Rattle.std.proofs.Common.{◌≡◌, cond, length, Some, None, vec_items, refl}
 use Rattle.tables.specs.declared.place.Table.{Table}
 use Rattle.tables.specs.declared.place.Table.TheVariants as table
-use Rattle.tables.specs.declared.place.TableRule.{TableRule}
 use Rattle.tables.specs.declared.place.TableRule.TheVariants.{Placement}
 use Rattle.tables.specs.Layout.{Content}
 use Rattle.tables.specs.Least.{fault, first_below, first_in, all_tables}

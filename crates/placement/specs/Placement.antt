@@ -1,5 +1,5 @@
 -- Rule 4, Placement: rows that have to stand lower, and things that have two places. Each test is true of a row that breaks it.
-use Rattle.std.specs.Prelude.{ℕ, Bool, true, false, cond, not, ◌&&◌, ◌||◌, leb, List, [], ◌∷◌, Some, None, Option, ◌==◌, nat_eq, nat_le, slice_index_or}
+use Rattle.std.specs.Prelude.{ℕ, Bool, false, not, ◌&&◌, ◌||◌, leb, List, [], ◌∷◌, Some, None, Option, ◌==◌, nat_eq, nat_le, slice_index_or}
 use Rattle.tables.specs.declared.kinds.TypeKind.{TypeKind}
 use Rattle.tables.specs.declared.kinds.TypeKind.TheVariants as type
 use Rattle.tables.specs.declared.place.Place.{Place}

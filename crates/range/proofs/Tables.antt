@@ -1,5 +1,5 @@
 -- The faults of each table are those of its broken places.
-use Rattle.std.proofs.Common.{◌≡◌, ℕ, cond, Some, None, refl}
+use Rattle.std.proofs.Common.{◌≡◌, cond, Some, None, refl}
 use Rattle.tables.specs.declared.place.Table.{Table}
 use Rattle.tables.specs.declared.place.Table.TheVariants as table
 use Rattle.tables.specs.declared.place.TableRule.TheVariants.{Range}

@@ -1,5 +1,5 @@
 -- When two rows of the types are the same type, and what a type's row says.
-use Rattle.std.specs.Prelude.{ℕ, Bool, true, false, not, ◌&&◌, ◌||◌, Some, None, Option, ◌==◌}
+use Rattle.std.specs.Prelude.{Bool, true, false, not, ◌&&◌, ◌||◌, Some, None, Option, ◌==◌}
 use Rattle.tables.specs.declared.kinds.TypeKind.{TypeKind}
 use Rattle.tables.specs.declared.kinds.TypeKind.TheVariants as type
 use Rattle.tables.specs.declared.rows.TypeRow.{TypeRow}

@@ -1,5 +1,5 @@
 -- Words that every rule may use: rows and ranges of a table, and tests of its rows.
-use Rattle.std.specs.Prelude.{ℕ, zero, suc, ◌+◌, ◌-◌, Bool, true, false, cond, ◌||◌, List, [], ◌∷◌, length, take, drop, Some, None, Option, nat_le, nat_lt}
+use Rattle.std.specs.Prelude.{ℕ, zero, suc, ◌+◌, ◌-◌, Bool, false, cond, ◌||◌, List, [], ◌∷◌, length, take, drop, Some, None, Option, nat_le, nat_lt}
 
 -- one of the rows passes the test
 abbrev pub some : {A : Type 0} → (A → Bool) → List A → Bool

@@ -1,10 +1,10 @@
 -- A header that keeps its rules, and the numbers behind it.
-use Rattle.std.proofs.Common.{◌≡◌, ℕ, ◌+◌, ◌-◌, ◌*◌, ◌≤◌, Bool, true, false, eqb, List, length, take, drop, None, sym, refl, ap, ◌∙◌, arith, length-drop}
+use Rattle.std.proofs.Common.{◌≡◌, ℕ, ◌+◌, ◌-◌, ◌*◌, true, false, eqb, List, length, take, drop, None, sym, arith, length-drop}
 use Rattle.std.proofs.lemmas.List.{take_rest}
 use Rattle.std.proofs.lemmas.Bool.{eq-eqb}
 use Rattle.tables.specs.declared.tables.Counts.{Counts}
 use Rattle.tables.specs.Numbers.{numbers_of}
-use Rattle.tables.specs.Layout.{Content, cells_of, over_limit, wrong_length, wrong_counts, header_counts, cut, content_of}
+use Rattle.tables.specs.Layout.{Content, cells_of, over_limit, wrong_length, header_counts, cut, content_of}
 use Rattle.tables.specs.Reading.{header_verdict}
 use Rattle.tables.proofs.Steps.{numbers_length}
 

@@ -1,4 +1,4 @@
-use Rattle.std.proofs.Common.{◌≡◌, ap, ◌∙◌}
+use Rattle.std.proofs.Common.{ap, ◌∙◌}
 use Rattle.tables.specs.Layout.{content}
 use Rattle.tables.specs.Least.{first_in, all_tables}
 use Rattle.placement.specs.Holders.{Holders}

@@ -1,4 +1,4 @@
-use Rattle.std.proofs.Common.{arith, rules}
+use Rattle.std.proofs.Common.{arith}
 use Rattle.tables.proofs.Steps.{room, rows_more, moved}
 use Rattle.tables.proofs.numbers.rows.Goals as goal
 

@@ -1,4 +1,4 @@
-use Rattle.std.proofs.Common.{◌≡◌, ℕ, ◌+◌, ◌-◌, ◌<◌, ◌≤◌, List, length, get_or, take, vec_items, sym, ap, ◌∙◌, subst, arith}
+use Rattle.std.proofs.Common.{◌≡◌, ℕ, ◌+◌, ◌-◌, List, get_or, take, vec_items, sym, ap, ◌∙◌, subst, arith}
 use Rattle.tables.specs.Layout.{stated_length}
 use Rattle.model.specs.Reading.{Checks}
 use Rattle.model.proofs.Inputs.{cut_short, kept_whole, long_version, long_counts}

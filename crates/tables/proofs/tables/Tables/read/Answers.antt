@@ -1,4 +1,4 @@
-use Rattle.std.proofs.Common.{◌≡◌, ◌+◌, ◌*◌, length, sym, ap, ◌∙◌, arith}
+use Rattle.std.proofs.Common.{◌≡◌, ◌+◌, ◌*◌, length, ap, ◌∙◌, arith}
 use Rattle.tables.specs.Layout.{cells_of, content}
 use Rattle.tables.proofs.Header.{enough, keeps, whole}
 use Rattle.tables.proofs.tables.Tables.read.Goals as goal
