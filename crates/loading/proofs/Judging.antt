@@ -1,13 +1,12 @@
 -- The verdicts of typing and of loading are the least faults.
-use Rattle.std.proofs.Common.{◌≡◌, ℕ, true, not, List, map, is_some, Some, None, Ok, Err, vec_items, Option, Result, Vec, sym, refl, ap, ◌∙◌, inl, inr, lit≤}
+use Rattle.std.proofs.Common.{◌≡◌, ℕ, true, List, map, Some, None, Ok, Err, vec_items, Option, Result, Vec, sym, refl, ap, ◌∙◌, inl, inr, lit≤}
 use Rattle.std.specs.declared.alloc.Global.{Global}
 use Rattle.tables.specs.declared.place.Fault.{Fault}
-use Rattle.tables.specs.declared.place.TableRule.{TableRule}
 use Rattle.tables.specs.declared.place.TableRule.TheVariants as tables
 use Rattle.tables.specs.declared.read.ReadError.{ReadError}
 use Rattle.tables.specs.declared.read.ReadError.TheVariants as read
 use Rattle.tables.specs.Layout.{Content, content, content_of}
-use Rattle.tables.specs.Least.{first_in, or_else, under_rule, verdict_of, Judges}
+use Rattle.tables.specs.Least.{or_else, under_rule, verdict_of, Judges}
 use Rattle.tables.proofs.First.{In, Rising}
 use Rattle.tables.proofs.Least.{judges}
 use Rattle.model.specs.declared.model.ReadModel.{ReadModel}

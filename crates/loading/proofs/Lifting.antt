@@ -1,6 +1,5 @@
 -- Rules among other rules: what is judged under some rules is judged the same where more rules are.
 use Rattle.std.proofs.Common.{◌≡◌, ℕ, zero, suc, Bool, true, false, cond, List, [], ◌∷◌, ◌++◌, map, Some, None, Option, sym, refl, ap, ◌∙◌}
-use mathlib.Core.Path.{fun_ext}
 use Rattle.tables.specs.declared.place.Fault.{Fault}
 use Rattle.tables.specs.declared.place.Table.{Table}
 use Rattle.tables.specs.Least.{Case, fault, first_below, first_in, or_else, in_row, in_table, under_rule, all_tables}

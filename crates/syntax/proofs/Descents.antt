@@ -1,5 +1,5 @@
 -- The depth of a recursion on rows never shows.
-use Rattle.std.proofs.Common.{◌≡◌, ℕ, zero, suc, ◌<◌, ◌≤◌, Bool, true, false, cond, ltb, refl, ap, arith, ltb-true}
+use Rattle.std.proofs.Common.{◌≡◌, ℕ, zero, suc, ◌<◌, Bool, true, false, cond, ltb, refl, ap, arith, ltb-true}
 use mathlib.Core.Path.{fun_ext}
 use Rattle.syntax.specs.Descent.{below, descend_to, descend}
 

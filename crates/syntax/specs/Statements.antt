@@ -1,5 +1,5 @@
 -- What a row of the statements says.
-use Rattle.std.specs.Prelude.{ℕ, ◌-◌, cond, List, [], ◌∷◌, Some, None, Option, ◌==◌}
+use Rattle.std.specs.Prelude.{ℕ, ◌-◌, cond, [], ◌∷◌, Some, None, Option, ◌==◌}
 use Rattle.tables.specs.declared.kinds.StatementKind.{StatementKind}
 use Rattle.tables.specs.declared.kinds.StatementKind.TheVariants as kind
 use Rattle.tables.specs.declared.rows.StatementRow.{StatementRow}
@@ -9,8 +9,6 @@ use Rattle.syntax.specs.declared.statements.Group.{Group}
 use Rattle.syntax.specs.declared.statements.Group.TheVariants as group
 use Rattle.syntax.specs.declared.statements.Manner.{Manner}
 use Rattle.syntax.specs.declared.statements.Manner.TheVariants as manner
-use Rattle.syntax.specs.declared.statements.Creation.{Creation}
-use Rattle.syntax.specs.declared.statements.Call.{Call}
 use Rattle.syntax.specs.declared.statements.Statement.{Statement}
 use Rattle.syntax.specs.declared.statements.Statement.TheVariants as statement
 

@@ -1,13 +1,12 @@
 -- Patterns: the rules tied together, and children one after another.
-use Rattle.std.proofs.Common.{◌≡◌, ℕ, zero, suc, ◌+◌, ◌<◌, ◌≤◌, Bool, true, false, cond, ◌&&◌, ltb, List, [], ◌∷◌, ◌++◌, length, get_or, drop, is_some, Some, None, Option, sym, refl, ap, ◌∙◌, append_assoc, arith, ltb-true}
+use Rattle.std.proofs.Common.{◌≡◌, ℕ, suc, ◌+◌, ◌<◌, ◌≤◌, Bool, true, false, cond, List, [], ◌∷◌, ◌++◌, length, get_or, drop, is_some, Some, None, Option, sym, refl, ap, ◌∙◌, append_assoc}
 use Rattle.std.proofs.lemmas.List.{drop_all, drop_more}
 use Rattle.tables.specs.declared.rows.FunctionRow.{FunctionRow}
 use Rattle.tables.specs.declared.rows.ListRow.{ListRow}
 use Rattle.tables.specs.Layout.{Content}
 use Rattle.syntax.specs.declared.types.ValueType.{ValueType}
 use Rattle.syntax.specs.Descent.{below}
-use Rattle.syntax.specs.Nodes.{node_at}
-use Rattle.syntax.specs.Rows.{given, when}
+use Rattle.syntax.specs.Rows.{given}
 use Rattle.syntax.specs.Types.{agree}
 use Rattle.syntax.proofs.Descents.{descend_step}
 use Rattle.mapping.specs.Bindings.{lookup}

@@ -1,5 +1,5 @@
 -- The search for the first row that breaks a rule of any kind.
-use Rattle.std.proofs.Common.{◌≡◌, ℕ, ◌+◌, ◌<◌, ◌≤◌, Bool, true, false, cond, List, [], ◌∷◌, length, get_or, Some, None, Option, sym, refl, ◌∙◌}
+use Rattle.std.proofs.Common.{◌≡◌, ℕ, ◌+◌, ◌<◌, Bool, true, false, List, length, get_or, Some, None, Option, sym, refl}
 use Rattle.tables.specs.declared.place.Table.{Table}
 use Rattle.tables.specs.Least.{fault, first_below}
 use Rattle.tables.proofs.First.{below_none, below_more, below_some}

@@ -1,14 +1,12 @@
 -- The typing verdict: the first function without a type, or else the first placed statement without one.
-use Rattle.std.proofs.Common.{◌≡◌, ℕ, Bool, true, false, not, List, is_some, Some, None, Option, sym, refl, ap, ◌∙◌}
+use Rattle.std.proofs.Common.{◌≡◌, true, false, not, List, is_some, Some, None, Option, sym, refl, ap, ◌∙◌}
 use Rattle.tables.specs.declared.place.Fault.{Fault}
 use Rattle.tables.specs.declared.place.Table.TheVariants as table
 use Rattle.tables.specs.declared.rows.FunctionRow.{FunctionRow}
 use Rattle.tables.specs.declared.rows.StatementRow.{StatementRow}
 use Rattle.tables.specs.Layout.{Content}
 use Rattle.tables.specs.Least.{or_else, under_rule}
-use Rattle.rules.specs.Faults.{places}
 use Rattle.typing.specs.Faults.{table_fault}
-use Rattle.rules.specs.Words.{at}
 use Rattle.rules.proofs.Searches.{or_else_first, or_else_rest}
 use Rattle.typing.proofs.Rows.{no_fault}
 use Rattle.placement.specs.Holders.{Holders, method_classes, statement_methods}

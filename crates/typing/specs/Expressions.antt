@@ -2,7 +2,6 @@
 use Rattle.std.specs.Prelude.{ℕ, Bool, true, false, ◌&&◌, List, [], ◌∷◌, drop, Some, None, Option}
 use Rattle.tables.specs.declared.rows.BranchRow.{BranchRow}
 use Rattle.tables.specs.declared.rows.ClassRow.{ClassRow}
-use Rattle.tables.specs.declared.rows.ConstructorRow.{ConstructorRow}
 use Rattle.tables.specs.declared.rows.FunctionRow.{FunctionRow}
 use Rattle.tables.specs.declared.rows.ListRow.{ListRow}
 use Rattle.tables.specs.Layout.{Content}
@@ -17,7 +16,7 @@ use Rattle.syntax.specs.declared.types.ValueType.TheVariants as type
 use Rattle.syntax.specs.Descent.{descend}
 use Rattle.syntax.specs.Nodes.{parts, node_at}
 use Rattle.syntax.specs.Rows.{row_at, given, when, every}
-use Rattle.syntax.specs.Types.{type_at, same, agree}
+use Rattle.syntax.specs.Types.{type_at, agree}
 use Rattle.typing.specs.declared.within.Within.{Within}
 use Rattle.typing.specs.declared.within.Within.TheVariants as within
 use Rattle.typing.specs.Scopes.{Bindings, entry_type}

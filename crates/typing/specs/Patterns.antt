@@ -1,6 +1,6 @@
 -- Which types a pattern fits, and what it binds. A pattern's rule takes the scope before it, and gives the scope behind it, or
 -- nothing where the node is no pattern or does not fit the type.
-use Rattle.std.specs.Prelude.{ℕ, Bool, List, [], ◌∷◌, Some, None, Option}
+use Rattle.std.specs.Prelude.{ℕ, List, [], ◌∷◌, Some, None, Option}
 use Rattle.tables.specs.declared.rows.ConstructorRow.{ConstructorRow}
 use Rattle.tables.specs.declared.rows.FunctionRow.{FunctionRow}
 use Rattle.tables.specs.declared.rows.ListRow.{ListRow}

@@ -1,5 +1,5 @@
 -- Which slots are bound where an expression stands, and their types.
-use Rattle.std.specs.Prelude.{ℕ, zero, suc, ◌+◌, Bool, cond, ◌&&◌, List, [], ◌∷◌, is_some, Some, None, Option, nat_lt}
+use Rattle.std.specs.Prelude.{ℕ, zero, suc, ◌+◌, cond, ◌&&◌, List, [], ◌∷◌, is_some, Some, None, Option, nat_lt}
 use Rattle.tables.specs.declared.rows.ClassRow.{ClassRow}
 use Rattle.tables.specs.declared.rows.FunctionRow.{FunctionRow}
 use Rattle.tables.specs.declared.rows.ListRow.{ListRow}

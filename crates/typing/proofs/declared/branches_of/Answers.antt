@@ -1,4 +1,3 @@
-use Rattle.std.proofs.Common.{◌≡◌}
 use Rattle.rules.proofs.Walks.{tail_clamped}
 use Rattle.typing.proofs.declared.branches_of.Goals as goal
 

@@ -2,5 +2,5 @@ use Rattle.tables.specs.Layout.{content}
 use Rattle.loading.proofs.Judging.{types_kept}
 use Rattle.loading.proofs.accepted.AcceptedModel.new.Goals as goal
 
-pub invariant-of-result : goal.invariant-of-result
-invariant-of-result c = (types_kept (content c.args.model.tables) c.requires.checked, tt)
+pub invariant_of-result : goal.invariant_of-result
+invariant_of-result c = record { typed = types_kept (content c.args.model.tables) c.requires.checked }

@@ -11,7 +11,7 @@ returns c =
     record {
       gives = record {
         value = gave.value ∙ arguments_above (tables_of e) e.within (type_in (tables_of e) e.within) (bindings_of c.args.scope.now) c.args.arguments.now c.args.parameters.now
-            (λ i. omega (arith, (c.type-inv.arguments i).fits));
+            (λ i. omega (arith, c.type_inv.arguments i));
         same = gave.same;
       };
     }
