@@ -34,7 +34,7 @@ pub struct Examined {
 
 impl Expressions<'_> {
     /// The type of the expression in this row, if it has one.
-    #[cycle(alike_all_have_arguments_fit_both_branch_type_case_type_common_type_constructor_type_function_type_has_lower_type_node_type_type_of)]
+    #[cycle(expression_types)]
     pub(crate) fn type_of(&self, scope: &mut Scope<'_, '_>, row: u16) -> Option<ValueType>
         ensures gives { Gives (type_in (tables_of self.now) self.now.within row (bindings_of scope.old)) (bindings_of scope.old) result (bindings_of scope.new) }
     {
@@ -45,7 +45,7 @@ impl Expressions<'_> {
     }
 
     /// The type of a node, whose children stand below this row.
-    #[cycle(alike_all_have_arguments_fit_both_branch_type_case_type_common_type_constructor_type_function_type_has_lower_type_node_type_type_of)]
+    #[cycle(expression_types)]
     fn node_type(&self, scope: &mut Scope<'_, '_>, row: usize, node: Node) -> Option<ValueType>
         ensures gives { Gives (type_rule (tables_of self.now) self.now.within (lower_types self.now row) (bindings_of scope.old) node) (bindings_of scope.old) result (bindings_of scope.new) }
     {
@@ -78,7 +78,7 @@ impl Expressions<'_> {
     }
 
     /// The type of a child, if it stands below this row.
-    #[cycle(alike_all_have_arguments_fit_both_branch_type_case_type_common_type_constructor_type_function_type_has_lower_type_node_type_type_of)]
+    #[cycle(expression_types)]
     fn lower_type(&self, scope: &mut Scope<'_, '_>, row: usize, child: u16) -> Option<ValueType>
         ensures gives { Gives (lower_types self.now row child (bindings_of scope.old)) (bindings_of scope.old) result (bindings_of scope.new) }
     {
@@ -89,7 +89,7 @@ impl Expressions<'_> {
     }
 
     /// Whether a child has this type.
-    #[cycle(alike_all_have_arguments_fit_both_branch_type_case_type_common_type_constructor_type_function_type_has_lower_type_node_type_type_of)]
+    #[cycle(expression_types)]
     fn has(&self, scope: &mut Scope<'_, '_>, row: usize, to: ValueType, child: u16) -> bool
         ensures gives { Gives (agree (lower_types self.now row child (bindings_of scope.old)) (Some to)) (bindings_of scope.old) result (bindings_of scope.new) }
     {
@@ -97,7 +97,7 @@ impl Expressions<'_> {
     }
 
     /// Whether two children have this type.
-    #[cycle(alike_all_have_arguments_fit_both_branch_type_case_type_common_type_constructor_type_function_type_has_lower_type_node_type_type_of)]
+    #[cycle(expression_types)]
     fn both(&self, scope: &mut Scope<'_, '_>, row: usize, to: ValueType, a: u16, b: u16) -> bool
         ensures gives { Gives (both (tables_of self.now) self.now.within (lower_types self.now row) (bindings_of scope.old) to a b) (bindings_of scope.old) result (bindings_of scope.new) }
     {
@@ -105,7 +105,7 @@ impl Expressions<'_> {
     }
 
     /// Whether two children have one type.
-    #[cycle(alike_all_have_arguments_fit_both_branch_type_case_type_common_type_constructor_type_function_type_has_lower_type_node_type_type_of)]
+    #[cycle(expression_types)]
     fn alike(&self, scope: &mut Scope<'_, '_>, row: usize, a: u16, b: u16) -> bool
         ensures gives { Gives (agree (lower_types self.now row a (bindings_of scope.old)) (lower_types self.now row b (bindings_of scope.old))) (bindings_of scope.old) result (bindings_of scope.new) }
     {
@@ -113,7 +113,7 @@ impl Expressions<'_> {
         agree(first, self.lower_type(scope, row, b))
     }
 
-    #[cycle(alike_all_have_arguments_fit_both_branch_type_case_type_common_type_constructor_type_function_type_has_lower_type_node_type_type_of)]
+    #[cycle(expression_types)]
     fn constructor_type(
         &self,
         scope: &mut Scope<'_, '_>,
@@ -134,7 +134,7 @@ impl Expressions<'_> {
         }
     }
 
-    #[cycle(alike_all_have_arguments_fit_both_branch_type_case_type_common_type_constructor_type_function_type_has_lower_type_node_type_type_of)]
+    #[cycle(expression_types)]
     fn function_type(
         &self,
         scope: &mut Scope<'_, '_>,
@@ -156,7 +156,7 @@ impl Expressions<'_> {
     }
 
     /// Whether the arguments, which stand below this row, have the types of the parameters, one for one.
-    #[cycle(alike_all_have_arguments_fit_both_branch_type_case_type_common_type_constructor_type_function_type_has_lower_type_node_type_type_of)]
+    #[cycle(expression_types)]
     fn arguments_fit(
         &self,
         scope: &mut Scope<'_, '_>,
@@ -178,7 +178,7 @@ impl Expressions<'_> {
         true
     }
 
-    #[cycle(alike_all_have_arguments_fit_both_branch_type_case_type_common_type_constructor_type_function_type_has_lower_type_node_type_type_of)]
+    #[cycle(expression_types)]
     fn case_type(
         &self,
         scope: &mut Scope<'_, '_>,
@@ -201,7 +201,7 @@ impl Expressions<'_> {
     }
 
     /// The type of the first branch, if the others have it too.
-    #[cycle(alike_all_have_arguments_fit_both_branch_type_case_type_common_type_constructor_type_function_type_has_lower_type_node_type_type_of)]
+    #[cycle(expression_types)]
     fn common_type(
         &self,
         scope: &mut Scope<'_, '_>,
@@ -221,7 +221,7 @@ impl Expressions<'_> {
     }
 
     /// Whether all branches have this type.
-    #[cycle(alike_all_have_arguments_fit_both_branch_type_case_type_common_type_constructor_type_function_type_has_lower_type_node_type_type_of)]
+    #[cycle(expression_types)]
     fn all_have(
         &self,
         scope: &mut Scope<'_, '_>,
@@ -241,7 +241,7 @@ impl Expressions<'_> {
     }
 
     /// The type of a branch's body, in the scope behind its pattern; the bindings do not outlive the body.
-    #[cycle(alike_all_have_arguments_fit_both_branch_type_case_type_common_type_constructor_type_function_type_has_lower_type_node_type_type_of)]
+    #[cycle(expression_types)]
     fn branch_type(
         &self,
         scope: &mut Scope<'_, '_>,

@@ -21,7 +21,7 @@ pub struct Patterns<'a> {
 
 impl Patterns<'_> {
     /// Whether the pattern in this row fits the type; it binds its variables, left to right.
-    #[cycle(child_fits_children_fit_constructor_fits_fits_node_fits)]
+    #[cycle(pattern_fits)]
     pub(crate) fn fits(&self, scope: &mut Scope<'_, '_>, row: u16, to: ValueType) -> bool
         ensures matched { Matched (pattern_scope (model_of self.now) self.now.function row (bindings_of scope.old) to) (bindings_of scope.old) result (bindings_of scope.new) }
     {
@@ -32,7 +32,7 @@ impl Patterns<'_> {
     }
 
     /// The same of a node, whose children stand below this row.
-    #[cycle(child_fits_children_fit_constructor_fits_fits_node_fits)]
+    #[cycle(pattern_fits)]
     fn node_fits(&self, scope: &mut Scope<'_, '_>, row: u16, node: Node, to: ValueType) -> bool
         ensures matched { Matched (pattern_rule (model_of self.now) self.now.function (lower_scopes self.now row) (bindings_of scope.old) node to) (bindings_of scope.old) result (bindings_of scope.new) }
     {
@@ -62,7 +62,7 @@ impl Patterns<'_> {
         true
     }
 
-    #[cycle(child_fits_children_fit_constructor_fits_fits_node_fits)]
+    #[cycle(pattern_fits)]
     fn constructor_fits(
         &self,
         scope: &mut Scope<'_, '_>,
@@ -84,7 +84,7 @@ impl Patterns<'_> {
     }
 
     /// Whether the children fit the parameters, one for one.
-    #[cycle(child_fits_children_fit_constructor_fits_fits_node_fits)]
+    #[cycle(pattern_fits)]
     fn children_fit(
         &self,
         scope: &mut Scope<'_, '_>,
@@ -105,7 +105,7 @@ impl Patterns<'_> {
         true
     }
 
-    #[cycle(child_fits_children_fit_constructor_fits_fits_node_fits)]
+    #[cycle(pattern_fits)]
     fn child_fits(
         &self,
         scope: &mut Scope<'_, '_>,

@@ -1,7 +1,7 @@
 use Rattle.std.proofs.Common.{arith}
 use Rattle.typing.specs.Views.{bindings_of, model_of, lower_scopes}
 use Rattle.typing.proofs.Matches.{pattern_step_lem, matched_none, matched_unequal, child_more, child_stops, children_done}
-use Rattle.typing.proofs.patterns.Patterns.+child_fits_children_fit_constructor_fits_fits_node_fits.Goals as goal
+use Rattle.typing.proofs.patterns.Patterns.+pattern_fits.Goals as goal
 
 pub children_fit-returns-then-children-parameters : goal.children_fit-returns-then-children-parameters
 children_fit-returns-then-children-parameters t c =

@@ -2,7 +2,7 @@ use Rattle.std.proofs.Common.{◌≡◌, ◌+◌, ◌*◌, ◌++◌, drop}
 use Rattle.typing.specs.Patterns.{children_scope}
 use Rattle.typing.specs.Scopes.{Bindings}
 use Rattle.typing.specs.Views.{bindings_of, model_of, lower_scopes}
-use Rattle.typing.proofs.patterns.Patterns.+child_fits_children_fit_constructor_fits_fits_node_fits.Given as goal
+use Rattle.typing.proofs.patterns.Patterns.+pattern_fits.Given as goal
 
 -- the row falls from a pattern to its children; within a row the calls go in this order
 abbrev pub decreases-fits : goal.decreases-fits

@@ -1,8 +1,8 @@
 use Rattle.std.proofs.Common.{refl, arith, rules}
 use Rattle.typing.specs.Views.{bindings_of, tables_of, lower_types}
 use Rattle.typing.proofs.Typings.{type_step_lem, branch_stops, branch_more, branches_done, arguments_unequal, argument_stops, argument_more, arguments_done, common, branch_fits, branch_misfits}
-use Rattle.typing.proofs.expressions.Expressions.+alike_all_have_arguments_fit_both_branch_type_case_type_common_type_constructor_type_function_type_has_lower_type_node_type_type_of.Goals as goal
-use Rattle.typing.proofs.expressions.Expressions.+alike_all_have_arguments_fit_both_branch_type_case_type_common_type_constructor_type_function_type_has_lower_type_node_type_type_of.Goals.{branch_type-then-fits, branch_type-else-fits}
+use Rattle.typing.proofs.expressions.Expressions.+expression_types.Goals as goal
+use Rattle.typing.proofs.expressions.Expressions.+expression_types.Goals.{branch_type-then-fits, branch_type-else-fits}
 
 pub all_have-returns-then-not-agree : goal.all_have-returns-then-not-agree
 all_have-returns-then-not-agree t c =

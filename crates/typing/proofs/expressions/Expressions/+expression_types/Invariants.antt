@@ -1,7 +1,7 @@
 use Rattle.std.proofs.Common.{◌≡◌, ◌+◌, ◌*◌, drop}
 use Rattle.typing.specs.Expressions.{all_have, arguments_fit}
 use Rattle.typing.specs.Views.{bindings_of, tables_of, lower_types}
-use Rattle.typing.proofs.expressions.Expressions.+alike_all_have_arguments_fit_both_branch_type_case_type_common_type_constructor_type_function_type_has_lower_type_node_type_type_of.Given as goal
+use Rattle.typing.proofs.expressions.Expressions.+expression_types.Given as goal
 
 -- the row falls from an expression to its children; within a row the calls go in this order
 abbrev pub decreases-type_of : goal.decreases-type_of
