@@ -3,7 +3,8 @@
 
 usage: python3 tools/respell.py [FOLDER]      FOLDER: the top of a checkout, else the one that holds this script
 
-It turns whole names: in .antt and .rt files everywhere, in README.md and docs/ between backquotes. Names that begin with a capital,
+It turns whole names: in .antt and .rt files everywhere, in README.md and docs/ between backquotes, but for the page
+docs/PORT.md, which has the old names beside the new. Names that begin with a capital,
 names of functions, strings, inputs and outputs are in no row of the table. A second run changes nothing.
 """
 import pathlib
@@ -42,7 +43,8 @@ def main():
             if "out" not in path.relative_to(top).parts:
                 turn(path, names)
     for path in [top / "README.md", *sorted((top / "docs").glob("*.md"))]:
-        turn(path, names)
+        if path.name != "PORT.md":
+            turn(path, names)
 
 
 main()
