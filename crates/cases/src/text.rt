@@ -9,6 +9,10 @@
 //! - `given=G`: the input ends after G bytes
 //!
 //! Numbers and single bytes are in order what follows the version: the eleven counts, and then the rows of the tables.
+ghost use Rattle.std.specs.Prelude.{◌≡◌, IfOk};
+ghost use Rattle.cases.specs.declared.text.SpellError.TheVariants.{NotAnItem, NoMemory};
+ghost use Rattle.cases.specs.Text.{IsItem, told_by, with_item, nothing_told, stated_length, input_of, Spells};
+
 use std::alloc::{AllocError, Global};
 use std::num::ParseIntError;
 use std::str::FromStr;
@@ -23,12 +27,16 @@ pub enum SpellError {
 }
 
 impl From<ParseIntError> for SpellError {
+    ghost from_gives = { λ _ r. r ≡ NotAnItem };
+
     fn from(_e: ParseIntError) -> SpellError {
         SpellError::NotAnItem
     }
 }
 
 impl From<AllocError> for SpellError {
+    ghost from_gives = { λ _ r. r ≡ NoMemory };
+
     fn from(_e: AllocError) -> SpellError {
         SpellError::NoMemory
     }
@@ -47,6 +55,8 @@ enum Item {
 
 impl FromStr for Item {
     type Err = ParseIntError;
+
+    ghost from_str_gives = { λ word r. IfOk r (IsItem word) };
 
     fn from_str(word: &str) -> Result<Item, ParseIntError> {
         if word == "|" {
@@ -83,7 +93,10 @@ struct Draft {
 }
 
 impl Draft {
-    fn new(heap: Global) -> Draft {
+    /// Nothing is told yet.
+    fn new(heap: Global) -> Draft
+        ensures nothing { told_by result ≡ nothing_told }
+    {
         Draft {
             version: 1,
             length: None,
@@ -93,7 +106,9 @@ impl Draft {
     }
 
     /// Takes in one item more.
-    fn take_in(&mut self, item: Item) -> Result<(), AllocError> {
+    fn take_in(&mut self, item: Item) -> Result<(), AllocError>
+        ensures told { IfOk result (λ _. told_by self.new ≡ with_item item (told_by self.old)) }
+    {
         match item {
             Item::Numbers { times, number } => {
                 for _ in 0..times {
@@ -110,13 +125,17 @@ impl Draft {
     }
 
     /// The length to state: where no item does, the version and what follows it.
-    fn stated_length(&self) -> u32 {
+    fn stated_length(&self) -> u32
+        ensures stated { result ≡ stated_length (told_by self.now) }
+    {
         let right = u32::try_from(self.rest.len().saturating_add(1)).unwrap_or(u32::MAX);
         self.length.unwrap_or(right)
     }
 
     /// The bytes of the input.
-    fn bytes(&self, heap: Global) -> Result<Vec<u8>, AllocError> {
+    fn bytes(&self, heap: Global) -> Result<Vec<u8>, AllocError>
+        ensures input { IfOk result (λ bytes. bytes.items ≡ input_of (told_by self.now)) }
+    {
         let mut bytes = Vec::new(heap);
         bytes.extend_from_slice(&self.stated_length().to_be_bytes())?;
         bytes.push(self.version)?;
@@ -129,7 +148,9 @@ impl Draft {
 }
 
 /// The bytes of the input that the items spell.
-pub fn spelled(heap: Global, items: &str) -> Result<Vec<u8>, SpellError> {
+pub fn spelled(heap: Global, items: &str) -> Result<Vec<u8>, SpellError>
+    ensures spells { IfOk result (λ bytes. Spells items.now bytes.items) }
+{
     let mut draft = Draft::new(heap);
     for word in items.split_whitespace() {
         draft.take_in(word.parse::<Item>()?)?;
