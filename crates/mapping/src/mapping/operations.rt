@@ -1,5 +1,5 @@
 //! Making a mapping, and its operations: length, find, bind and cut.
-ghost use Rattle.std.specs.Prelude.{◌≡◌, [], ◌∷◌, reverse, length, is_ok, if◌then◌else◌, nat_lt};
+ghost use Rattle.std.specs.Prelude.{◌≡◌, [], ◌∷◌, reverse, length, slice_set, is_ok, if◌then◌else◌, nat_lt};
 ghost use Rattle.mapping.specs.Bindings.{lookup, bound, memory, capacity, since, oldest, blanked};
 
 use crate::mapping::{Binding, Blank, Mapping};
@@ -25,6 +25,7 @@ impl<'a, E: Blank> Mapping<'a, E> {
     /// The mapping that binds nothing, over the lent bindings.
     pub fn new(bindings: &'a mut [Binding<E>]) -> Mapping<'a, E>
         ensures empty { bound result ≡ [] }
+        ensures memory { memory result ≡ bindings.old }
         ensures capacity { capacity result ≡ length bindings.old }
     {
         Mapping { bindings, count: 0 }
@@ -48,6 +49,7 @@ impl<'a, E: Blank> Mapping<'a, E> {
     pub fn bind(&mut self, slot: u16, entry: E) -> Result<(), Full>
         ensures full { is_ok result ≡ nat_lt (length (bound self.old)) (capacity self.old) }
         ensures newest { bound self.new ≡ (if is_ok result then (record { slot = slot; entry = entry } ∷ bound self.old) else bound self.old) }
+        ensures memory { memory self.new ≡ (if is_ok result then slice_set (memory self.old) (length (bound self.old)) (record { slot = slot; entry = entry }) else memory self.old) }
         ensures capacity { capacity self.new ≡ capacity self.old }
     {
         if self.count >= self.bindings.len() {
