@@ -1,23 +1,28 @@
 -- The search for the first row that breaks a rule, and for the first table and rule.
-use Rattle.std.proofs.Common.{◌≡◌, ℕ, ◌+◌, ◌<◌, ◌≤◌, Bool, true, false, List, [], ◌∷◌, length, get_or, drop, is_some, Some, None, Option, sym, refl, ap, ◌∙◌, arith}
+use Rattle.std.proofs.Common.{◌≡◌, ℕ, ◌+◌, ◌<◌, ◌≤◌, Bool, true, false, cond, List, [], ◌∷◌, length, get_or, drop, is_some, Some, None, Option, sym, refl, ap, ◌∙◌, arith}
 use mathlib.Core.Path.{fun_ext}
 use Rattle.std.proofs.lemmas.List.{drop_all, drop_more}
 use Rattle.tables.specs.declared.place.Table.{Table}
 use Rattle.tables.specs.declared.place.Table.TheVariants.{Classes}
 use Rattle.tables.specs.declared.place.TableRule.{TableRule}
 use Rattle.tables.specs.declared.rows.ClassRow.{ClassRow}
-use Rattle.tables.specs.Least.{fault, first_below, first_in, or_else, all_tables}
+use Rattle.tables.specs.Least.{first_below, first_in, or_else, all_tables}
 use Rattle.tables.proofs.First.{below_none, below_more, below_some}
 use Rattle.rules.specs.Faults.{row_fault, table_fault, class_places}
+use Rattle.rules.specs.Words.{at}
 use Rattle.rules.proofs.Walks.{at_read}
 
-module _ {A : Type 0} (xs : List A) (test : ℕ → A → Bool) (rule : TableRule) (table : Table) (r : ℕ) (x : A)
-    (lt : r < length xs) (e : x ≡ get_or xs r x) (inv : first_below (row_fault xs test rule table) r ≡ None) where
-  pub row_passes : false ≡ test r x → first_below (row_fault xs test rule table) (r + 1) ≡ None
-  row_passes miss = below_more (row_fault xs test rule table) r inv (rw (at_read xs r x (test r) lt e, ← miss))
+-- the first row that passes a test, with what is answered of it
+module _ {A B : Type 0} (xs : List A) (test : ℕ → A → Bool) (answer : ℕ → B) where
+  abbrev pub in_row : ℕ → Option B
+  in_row r = cond (at xs r (test r)) (Some (answer r)) None
 
-  pub row_breaks : true ≡ test r x → Some (fault rule table r) ≡ first_below (row_fault xs test rule table) (length xs)
-  row_breaks hit = sym (below_some (row_fault xs test rule table) (length xs) r (fault rule table r) inv (rw (at_read xs r x (test r) lt e, ← hit)) lt)
+  module _ (r : ℕ) (x : A) (lt : r < length xs) (e : x ≡ get_or xs r x) (inv : first_below in_row r ≡ None) where
+    pub row_passes : false ≡ test r x → first_below in_row (r + 1) ≡ None
+    row_passes miss = below_more in_row r inv (rw (at_read xs r x (test r) lt e, ← miss))
+
+    pub row_breaks : true ≡ test r x → Some (answer r) ≡ first_below in_row (length xs)
+    row_breaks hit = sym (below_some in_row (length xs) r (answer r) inv (rw (at_read xs r x (test r) lt e, ← hit)) lt)
 
 -- the first answer along a list
 pub or_else_first : {B : Type 0} (o rest : Option B) → true ≡ is_some o → o ≡ or_else o rest

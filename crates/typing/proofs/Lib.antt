@@ -1,5 +1,4 @@
 mod Matches
 mod Room
-mod Rows
 mod Typings
 mod Verdicts

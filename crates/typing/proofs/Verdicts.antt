@@ -7,8 +7,7 @@ use Rattle.tables.specs.declared.rows.StatementRow.{StatementRow}
 use Rattle.tables.specs.Layout.{Content}
 use Rattle.tables.specs.Least.{or_else, under_rule}
 use Rattle.typing.specs.Faults.{table_fault}
-use Rattle.rules.proofs.Searches.{or_else_first, or_else_rest}
-use Rattle.typing.proofs.Rows.{no_fault}
+use Rattle.rules.proofs.Searches.{no_fault, or_else_first, or_else_rest}
 use Rattle.placement.specs.Holders.{Holders, method_classes, statement_methods}
 use Rattle.typing.specs.declared.rule.TypingRule.{TypingRule}
 use Rattle.typing.specs.declared.rule.TypingRule.TheVariants as rule
@@ -27,11 +26,11 @@ module _ (m : Content) where
 
   by_functions : under_rule (typing_case m) rule.Function ≡ functions
   unfolding functions
-  by_functions = simp no_fault (or_none functions)
+  by_functions = simp (← no_fault) (or_none functions)
 
   by_statements : under_rule (typing_case m) rule.Statement ≡ statements
   unfolding statements
-  by_statements = simp no_fault (or_none statements)
+  by_statements = simp (← no_fault) (or_none statements)
 
   verdict_by : typing_verdict m ≡ or_else functions statements
   unfolding typing_verdict
