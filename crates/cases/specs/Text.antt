@@ -42,6 +42,7 @@ pub record Told : Type 0 where
   pub stated : Option ℕ
   pub given : Option ℕ
 
+-- what a draft holds
 abbrev pub told_by : Draft → Told
 told_by d = record { version = d.version; rest = vec_items d.rest; stated = d.length; given = d.given }
 
@@ -49,6 +50,7 @@ told_by d = record { version = d.version; rest = vec_items d.rest; stated = d.le
 abbrev pub nothing_told : Told
 nothing_told = record { version = 1; rest = []; stated = None; given = None }
 
+-- the bytes, so many times
 abbrev pub repeated : ℕ → List ℕ → List ℕ
 repeated zero bs = []
 repeated (suc n) bs = repeated n bs ++ bs
@@ -62,6 +64,7 @@ with_item (Version version) t = record { version = version; rest = t.rest; state
 with_item (Length length) t = record { version = t.version; rest = t.rest; stated = Some length; given = t.given }
 with_item (Given given) t = record { version = t.version; rest = t.rest; stated = t.stated; given = Some given }
 
+-- one item after another
 abbrev pub with_items : List Item → Told → Told
 with_items [] t = t
 with_items (item ∷ later) t = with_items later (with_item item t)
@@ -70,6 +73,7 @@ with_items (item ∷ later) t = with_items later (with_item item t)
 abbrev pub stated_length : Told → ℕ
 stated_length t = unwrap_or t.stated (min (length t.rest + 1) (2 ^ 32 - 1))
 
+-- the first so many bytes, or all of them
 abbrev pub first_bytes : Option ℕ → List ℕ → List ℕ
 first_bytes None bs = bs
 first_bytes (Some n) bs = take n bs

@@ -22,14 +22,17 @@ pub data ModelRule : Type 0 where
   of_tables : TableRule → ModelRule
   of_typing : TypingRule → ModelRule
 
+-- the number under which a breach is reported
 abbrev pub model_number : ModelRule → ℕ
 model_number (of_tables r) = rule_number r
 model_number (of_typing r) = typing_number r
 
+-- which place of a model breaks which rule
 abbrev pub model_broken : List ℕ → ModelRule → Table → ℕ → Bool
 model_broken bs (of_tables r) = (case_of bs).broken r
 model_broken bs (of_typing r) = (typing_case (content_of bs)).broken r
 
+-- all rules, in the order of their numbers
 abbrev pub model_rules : List ModelRule
 model_rules = map of_tables all_rules ++ map of_typing (typing_case (content_of [])).rules
 
@@ -42,6 +45,7 @@ abbrev pub whole_fault : LoadFault → Fault ModelRule
 whole_fault (Reading f) = fault (of_tables f.rule) f.table f.row
 whole_fault (Typing f) = fault (of_typing f.rule) f.table f.row
 
+-- the number of the rule that a fault names
 abbrev pub fault_number : LoadFault → ℕ
 fault_number f = model_number (whole_fault f).rule
 

@@ -10,5 +10,6 @@ unfoldable pub descend_to : {A : Type 0} → (none : A) → (ℕ → (ℕ → A)
 descend_to none step zero row = none
 descend_to none step (suc depth) row = step row (below none row (descend_to none step depth))
 
+-- what a row has, made from what the lower rows have
 unfoldable pub descend : {A : Type 0} → (none : A) → (ℕ → (ℕ → A) → A) → (row : ℕ) → A
 descend none step row = descend_to none step (suc row) row

@@ -10,13 +10,15 @@ use Rattle.syntax.specs.declared.nodes.Node.TheVariants as node
 use Rattle.syntax.specs.declared.nodes.Parts.{Parts}
 use Rattle.syntax.specs.Rows.{row_at, given}
 
--- the rows of the parts
+-- the rows of the parts: the first `count` of the four
 abbrev pub parts : Parts → List ℕ
 parts p = take p.count p.rows
 
+-- the children of a node: the first `count` of p1 to p4
 abbrev pub children_of : NodeRow → Parts
 children_of x = record { rows = x.p1 ∷ x.p2 ∷ x.p3 ∷ x.p4 ∷ []; count = x.count }
 
+-- what a row says under each kind, and nothing under a kind that is unknown
 abbrev pub node_as : NodeRow → Option NodeKind → Option Node
 node_as x None = None
 node_as x (Some kind.Unit) = Some node.Unit
@@ -39,6 +41,7 @@ node_as x (Some kind.And) = Some (node.And x.p1 x.p2)
 node_as x (Some kind.Wildcard) = Some node.Wildcard
 node_as x (Some kind.Variable) = Some (node.Variable x.reference)
 
+-- what a row says
 abbrev pub node_of : NodeRow → Option Node
 node_of x = node_as x (node_kind x.kind)
 

@@ -16,16 +16,20 @@ use Rattle.syntax.specs.declared.statements.Statement.TheVariants as statement
 abbrev pub one_less : ℕ → Option ℕ
 one_less n = cond (n == 0) None (Some (n - 1))
 
+-- the arguments, or the slots of an await: the first `count` of p1 to p4
 abbrev pub parts_of : StatementRow → Parts
 parts_of x = record { rows = x.p1 ∷ x.p2 ∷ x.p3 ∷ x.p4 ∷ []; count = x.count }
 
+-- a new object, in the group of its maker or in a new one
 abbrev pub new_of : StatementRow → Group → Statement
 new_of x g = statement.New (one_less x.target) (record { group = g; class = x.reference; arguments = parts_of x }) x.next
 
+-- a call, asynchronous or synchronous
 abbrev pub call_of : StatementRow → Manner → Statement
 call_of x how =
     statement.Call (one_less x.target) (record { manner = how; object = one_less x.object; name = x.reference; arguments = parts_of x }) x.next
 
+-- what a row says under each kind, and nothing under a kind that is unknown
 abbrev pub statement_as : StatementRow → Option StatementKind → Option Statement
 statement_as x None = None
 statement_as x (Some kind.Skip) = Some (statement.Skip x.next)
@@ -40,5 +44,6 @@ statement_as x (Some kind.AsyncCall) = Some (call_of x manner.Asynchronous)
 statement_as x (Some kind.SyncCall) = Some (call_of x manner.Synchronous)
 statement_as x (Some kind.Return) = Some (statement.Return x.p1)
 
+-- what a row says
 abbrev pub statement_of : StatementRow → Option Statement
 statement_of x = statement_as x (statement_kind x.kind)

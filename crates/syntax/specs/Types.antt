@@ -19,6 +19,7 @@ type_as ref (Some kind.Data) = Some (type.Data ref)
 type_as ref (Some kind.Interface) = Some (type.Interface ref)
 type_as ref (Some kind.Future) = Some (type.Future ref)
 
+-- the type that a row says
 abbrev pub type_of : TypeRow → Option ValueType
 type_of x = type_as x.reference (type_kind x.kind)
 
@@ -26,7 +27,7 @@ type_of x = type_as x.reference (type_kind x.kind)
 abbrev pub type_at : Content → ℕ → Option ValueType
 type_at m row = given (row_at m.types row) type_of
 
--- Two types are the same if they are of one kind and name the same thing.
+-- the number of a type's kind in the format
 abbrev pub kind_number : ValueType → ℕ
 kind_number type.Unit = 0
 kind_number type.Bool = 1
@@ -35,6 +36,7 @@ kind_number (type.Data d) = 3
 kind_number (type.Interface i) = 4
 kind_number (type.Future r) = 5
 
+-- what a type names; 0 where it names nothing
 abbrev pub named : ValueType → ℕ
 named type.Unit = 0
 named type.Bool = 0
@@ -43,6 +45,7 @@ named (type.Data d) = d
 named (type.Interface i) = i
 named (type.Future r) = r
 
+-- Two types are the same if they are of one kind and name the same thing.
 abbrev pub same : ValueType → ValueType → Bool
 same a b = kind_number a == kind_number b && named a == named b
 

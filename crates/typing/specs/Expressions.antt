@@ -39,6 +39,7 @@ branches_of m first = part first (run_length (drop first m.branches)) m.branches
 abbrev pub function_parameters : Content → FunctionRow → List ListRow
 function_parameters m g = part g.slots_first g.parameters m.lists
 
+-- The rules, over `child`: the type that a lower row has in a scope.
 module _ (m : Content) (w : Within) (child : ℕ → Bindings → Option ValueType) where
   -- arguments have the types of the parameters, one for one
   abbrev pub arguments_fit : Bindings → List ℕ → List ListRow → Bool
@@ -47,9 +48,11 @@ module _ (m : Content) (w : Within) (child : ℕ → Bindings → Option ValueTy
   arguments_fit s (n ∷ ns) [] = false
   arguments_fit s (n ∷ ns) (x ∷ xs) = agree (child n s) (entry_type m x) && arguments_fit s ns xs
 
+  -- a constructor's data, if the arguments fit
   abbrev pub constructor_type : Bindings → ℕ → Parts → Option ValueType
   constructor_type s c ps = given (row_at m.constructors c) (λ k. when (arguments_fit s (parts ps) (parameters_of m k)) (Some (type.Data k.number)))
 
+  -- a function's result, if the arguments fit
   abbrev pub function_type : Bindings → ℕ → Parts → Option ValueType
   function_type s f ps = given (row_at m.functions f) (λ g. when (arguments_fit s (parts ps) (function_parameters m g)) (type_at m g.result))
 
@@ -97,9 +100,11 @@ module _ (m : Content) (w : Within) (child : ℕ → Bindings → Option ValueTy
   type_rule s node.Wildcard = None
   type_rule s (node.Variable slot) = None
 
+-- what a row has that is not lower
 abbrev pub no_type : Bindings → Option ValueType
 no_type s = None
 
+-- the rule of the node in a row, over the lower rows
 abbrev pub type_step : Content → Within → ℕ → (ℕ → Bindings → Option ValueType) → Bindings → Option ValueType
 type_step m w row child s = given (node_at m row) (type_rule m w child s)
 

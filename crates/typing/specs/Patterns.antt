@@ -29,6 +29,7 @@ parameters_of m k = part k.first k.count m.lists
 abbrev pub variable_scope : Content → FunctionRow → Bindings → ℕ → ValueType → Option Bindings
 variable_scope m f s slot t = when (agree (declared m f.slots_first f.slots slot) (Some t)) (Some (bind_free slot t s))
 
+-- The rules, over `child`: the scope behind a pattern in a lower row.
 module _ (m : Content) (f : FunctionRow) (child : ℕ → Bindings → ValueType → Option Bindings) where
   -- a child against the type of its parameter
   abbrev pub child_scope : Bindings → ℕ → ListRow → Option Bindings
@@ -41,6 +42,7 @@ module _ (m : Content) (f : FunctionRow) (child : ℕ → Bindings → ValueType
   children_scope s (n ∷ ns) [] = None
   children_scope s (n ∷ ns) (x ∷ xs) = given (child_scope s n x) (λ s'. children_scope s' ns xs)
 
+  -- a constructor of the matched data, whose children fit
   abbrev pub constructor_scope : Bindings → ℕ → Parts → ValueType → Option Bindings
   constructor_scope s c ps t =
       given (row_at m.constructors c) (λ k. when (same t (type.Data k.number)) (children_scope s (parts ps) (parameters_of m k)))
@@ -67,9 +69,11 @@ module _ (m : Content) (f : FunctionRow) (child : ℕ → Bindings → ValueType
   pattern_rule s node.Wildcard t = Some s
   pattern_rule s (node.Variable slot) t = variable_scope m f s slot t
 
+-- what a row has that is not lower
 abbrev pub no_scope : Bindings → ValueType → Option Bindings
 no_scope s t = None
 
+-- the rule of the node in a row, over the lower rows
 abbrev pub pattern_step : Content → FunctionRow → ℕ → (ℕ → Bindings → ValueType → Option Bindings) → Bindings → ValueType → Option Bindings
 pattern_step m f row child s t = given (node_at m row) (λ n. pattern_rule m f child s n t)
 

@@ -27,6 +27,7 @@ declared m first count k = when (nat_lt k 8 && nat_lt k count) (given (row_at m.
 abbrev pub bind_free : ℕ → ValueType → Bindings → Bindings
 bind_free slot t s = cond (is_some (lookup slot s)) s (record { slot = slot; entry = t } ∷ s)
 
+-- binds the slot, if it has a type
 abbrev pub bind_typed : ℕ → Option ValueType → Bindings → Bindings
 bind_typed slot None s = s
 bind_typed slot (Some t) s = bind_free slot t s

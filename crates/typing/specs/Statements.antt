@@ -60,6 +60,7 @@ abbrev pub signature_in : Content → InterfaceRow → ℕ → Option Heading
 signature_in m i name =
     given (first_that (λ g. nat_eq g.name name) (part i.first i.count m.signatures)) (λ g. Some (signature_heading g))
 
+-- the signature of this name in a type, if that is an interface
 abbrev pub signature_named : Content → ValueType → ℕ → Option Heading
 signature_named m type.Unit name = None
 signature_named m type.Bool name = None
@@ -116,9 +117,11 @@ module _ (m : Content) (c : ClassRow) (s : Bindings) where
   reached None name = method_named m c name
   reached (Some object) name = given (type_here object) (λ t. signature_named m t name)
 
+  -- the arguments fit the class that is named, and the target takes an object of it
   abbrev pub new_rule : Option ℕ → Creation → Bool
   new_rule target n = passes (row_at m.classes n.class) (λ k. arguments_here (parts n.arguments) (class_parameters m k) && takes_object m s target k)
 
+  -- there is such a method, the arguments fit it, and the target takes what the call gives
   abbrev pub call_rule : Option ℕ → Call → Bool
   call_rule target n =
       passes (reached n.object n.name) (λ h. arguments_here (parts n.arguments) (heading_parameters m h) && takes s target (given_by m n.manner h.result))

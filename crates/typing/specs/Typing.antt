@@ -57,7 +57,7 @@ abbrev pub typing_broken : Content → TypingRule → Table → ℕ → Bool
 typing_broken m rule.Function = only_in table.Functions (λ r. at m.functions r (λ f. not (function_typed m f)))
 typing_broken m rule.Statement = only_in table.Statements (λ r. at m.statements r (untyped_in m (statement_methods m) (method_classes m) r))
 
--- The tables of a model, as they are typed.
+-- What the typing rules judge: a model's rows, and which place breaks which rule.
 abbrev pub typing_case : Content → Case TypingRule
 typing_case m = record { rules = rule.Function ∷ rule.Statement ∷ []; rows = places m; broken = typing_broken m }
 
