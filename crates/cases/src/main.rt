@@ -28,12 +28,7 @@ impl fmt::Display for Verdict {
     fn fmt<W: fmt::Write>(&self, f: &mut fmt::Formatter<W>) -> fmt::Result {
         match self {
             Verdict::Read => write!(f, "read"),
-            Verdict::Refused(fault) => {
-                let number = fault.rule.number();
-                let table = fault.table.number();
-                let row = fault.row;
-                write!(f, "refused {number} {table} {row}")
-            }
+            Verdict::Refused(fault) => write!(f, "refused {fault}"),
             Verdict::NotACase => write!(f, "not a case"),
         }
     }

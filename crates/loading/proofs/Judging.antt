@@ -1,29 +1,24 @@
 -- The verdicts of typing and of loading are the least faults.
-use Rattle.std.proofs.Common.{◌≡◌, ℕ, true, List, map, Some, None, Ok, Err, vec_items, Option, Result, Vec, sym, refl, ap, ◌∙◌, inl, inr, lit≤}
+use Rattle.std.proofs.Common.{◌≡◌, ℕ, true, List, map, Some, None, Ok, Err, vec_items, Option, Result, Vec, sym, refl, ◌∙◌, inl, inr, lit≤}
 use Rattle.std.specs.declared.alloc.Global.{Global}
 use Rattle.tables.specs.declared.place.Fault.{Fault}
 use Rattle.tables.specs.declared.place.TableRule.TheVariants as tables
-use Rattle.tables.specs.declared.read.ReadError.{ReadError}
-use Rattle.tables.specs.declared.read.ReadError.TheVariants as read
-use Rattle.tables.specs.Layout.{Content, content, content_of}
+use Rattle.tables.specs.declared.check.CheckError.{CheckError}
+use Rattle.tables.specs.declared.check.CheckError.TheVariants as check
+use Rattle.tables.specs.Layout.{Content, content_of}
 use Rattle.tables.specs.Least.{or_else, under_rule, verdict_of, Judges}
 use Rattle.tables.proofs.First.{In, Rising}
 use Rattle.tables.proofs.Least.{judges}
-use Rattle.model.specs.declared.model.ReadModel.{ReadModel}
-use Rattle.model.specs.Reading.{ReadsModel}
 use Rattle.model.specs.Rules.{all_rules, case_of, verdict_in}
 use Rattle.typing.specs.declared.rule.TypingRule.{TypingRule}
 use Rattle.typing.specs.declared.rule.TypingRule.TheVariants as typing
 use Rattle.typing.specs.Typing.{typing_number, typing_case, typing_verdict}
 use Rattle.loading.specs.declared.accepted.AcceptedModel.{AcceptedModel}
-use Rattle.loading.specs.declared.accepted.accepting.TypingError.{TypingError}
-use Rattle.loading.specs.declared.accepted.accepting.TypingError.TheVariants as types
 use Rattle.loading.specs.declared.load.LoadError.{LoadError}
 use Rattle.loading.specs.declared.load.LoadError.TheVariants.{NoMemory, Refused}
 use Rattle.loading.specs.declared.load.LoadFault.{LoadFault}
 use Rattle.loading.specs.declared.load.LoadFault.TheVariants.{Reading, Typing}
 use Rattle.loading.specs.Accepting.{ChecksTypes, JudgesTypes}
-use Rattle.loading.specs.Errors.{after_reading, after_typing}
 use Rattle.loading.specs.Loading.{ModelRule, of_tables, of_typing, model_number, model_rules, model_case, whole_fault, LoadRefuses, Loads, JudgesModel}
 use Rattle.loading.specs.Types.{keeps_types}
 use Rattle.loading.proofs.Lifting.{lifted, first_append, rules_lifted}
@@ -37,10 +32,10 @@ typing_judged : (m : Content) (v : Option (Fault TypingRule)) → typing_verdict
 unfolding typing_verdict
 typing_judged m v e = judges typing_number (typing_case m) (typing_complete m) (lit≤ tt, (lit≤ tt, tt)) v (sym e)
 
-pub judge_types : (m : Content) (r : Result (Unit {0}) TypingError) → ChecksTypes m r → JudgesTypes m r
+pub judge_types : (m : Content) (r : Result (Unit {0}) (CheckError TypingRule)) → ChecksTypes m r → JudgesTypes m r
 judge_types m (Ok done) h = typing_judged m None h
-judge_types m (Err (types.Refused f)) h = typing_judged m (Some f) h
-judge_types m (Err types.NoMemory) h = tt
+judge_types m (Err (check.Refused f)) h = typing_judged m (Some f) h
+judge_types m (Err check.NoMemory) h = tt
 
 pub types_kept : (m : Content) → typing_verdict m ≡ None → keeps_types m ≡ true
 unfolding keeps_types
@@ -83,18 +78,3 @@ pub judge_load : (bytes : Vec ℕ Global) (r : Result AcceptedModel LoadError) �
 judge_load bytes (Ok a) h = judge_accepted (vec_items bytes) h.0 h.1
 judge_load bytes (Err (Refused f)) h = judge_refused (vec_items bytes) f h
 judge_load bytes (Err NoMemory) h = tt
-
--- the errors of reading and of typing, as loading tells them
-pub unread : (bytes : Vec ℕ Global) (e : ReadError) → ReadsModel bytes (Err e) → Loads bytes (Err (after_reading e))
-unread bytes read.NoMemory h = tt
-unread bytes (read.Refused f) h = h
-
-pub untyped : (bytes : Vec ℕ Global) (m : Content) (e : TypingError) → verdict_in (vec_items bytes) ≡ None → m ≡ content_of (vec_items bytes) → ChecksTypes m (Err e) →
-    Loads bytes (Err (after_typing e))
-untyped bytes m types.NoMemory none same h = tt
-untyped bytes m (types.Refused f) none same h = (none, ap typing_verdict (sym same) ∙ h)
-
--- a read model that passed, moved
-pub accepted : (bytes : Vec ℕ Global) (m : ReadModel) (a : AcceptedModel) → ReadsModel bytes (Ok m) → typing_verdict (content m.tables) ≡ None → a.model ≡ m → Loads bytes (Ok a)
-accepted bytes m a read typed moved =
-    (read.0, ap typing_verdict (sym read.2) ∙ typed, ap (λ (x : ReadModel). x.bytes) moved ∙ read.1, ap (λ (x : ReadModel). content x.tables) moved ∙ read.2)

@@ -2,15 +2,12 @@
 use Rattle.std.proofs.Common.{◌≡◌, ℕ, zero, suc, Bool, true, false, cond, List, [], ◌∷◌, ◌++◌, map, Some, None, Option, sym, refl, ap, ◌∙◌}
 use Rattle.tables.specs.declared.place.Fault.{Fault}
 use Rattle.tables.specs.declared.place.Table.{Table}
+use Rattle.tables.proofs.First.{or_else_assoc}
 use Rattle.tables.specs.Least.{Case, fault, first_below, first_in, or_else, in_row, in_table, under_rule, all_tables}
-
-or_assoc : {B : Type 0} (a b c : Option B) → or_else a (or_else b c) ≡ or_else (or_else a b) c
-or_assoc (Some x) b c = refl
-or_assoc None b c = refl
 
 pub first_append : {A B : Type 0} (f : A → Option B) (xs ys : List A) → first_in f (xs ++ ys) ≡ or_else (first_in f xs) (first_in f ys)
 first_append f [] ys = refl
-first_append f (x ∷ xs) ys = ap (λ (o : Option _). or_else (f x) o) (first_append f xs ys) ∙ or_assoc (f x) (first_in f xs) (first_in f ys)
+first_append f (x ∷ xs) ys = ap (λ (o : Option _). or_else (f x) o) (first_append f xs ys) ∙ sym (or_else_assoc (f x) (first_in f xs) (first_in f ys))
 
 -- a fault under a rule's other name
 abbrev pub lifted : {R K : Type 0} → (R → K) → Option (Fault R) → Option (Fault K)

@@ -7,7 +7,7 @@ use crate::accepted::AcceptedModel;
 use crate::accepted::accepting::{TypingError, check_types};
 use model::model::ReadModel;
 use std::alloc::Global;
-use tables::place::{Fault, Table, TableRule};
+use tables::place::{Fault, Rule, Table, TableRule};
 use tables::read::ReadError;
 use typing::rule::TypingRule;
 

@@ -1,108 +1,68 @@
--- One binding more or less: in the list of those in use, in a look-up and in the memory.
-use Rattle.std.proofs.Common.{◌≡◌, ℕ, suc, ◌+◌, ◌-◌, ◌<◌, ◌≤◌, min, max, List, [], ◌∷◌, ◌++◌, reverse, length, get_or, take, drop, set, replicate, Some, None, Option, sym, ap, ◌∙◌, inl, inr, arith}
-use Rattle.std.proofs.lemmas.List.{take_more, take_more_set, take-set, take-append-drop, reverse-append, length-reverse, length-take, length-drop, length-append, length-replicate, length-take-le, set_at, append_assoc}
-use Rattle.std.proofs.lemmas.Bool.{eq-eqb, ne_eqb, cases_lt}
-use Rattle.mapping.specs.Bindings.{lookup, used, bound, since, oldest, blanked}
+-- What a look-up, a bind and a cut do to the bindings in use.
+use Rattle.std.proofs.Common.{◌≡◌, ℕ, ◌+◌, ◌-◌, ◌<◌, ◌≤◌, min, length, List, [], ◌∷◌, ◌++◌, reverse, take, drop, set, replicate, sym, ap, ◌∙◌, arith, refl}
+use Rattle.std.specs.List.{slice_range, FoldsTo}
+use Rattle.std.proofs.lemmas.List.{take-append-drop, reverse-append, length-reverse, length-drop, take_at, drop_at, take_min, take-take, length-take-le, take_more_set, drop-drop}
+use Rattle.std.proofs.lemmas.Slice.{between_is, take-put_mid_below}
+use borrow.Rule.Slice.PartMut.{put_mid}
+use Rattle.mapping.specs.Bindings.{used, bound, since, oldest, blanked}
 use Rattle.mapping.specs.declared.mapping.Binding.{Binding}
 use Rattle.mapping.specs.declared.mapping.Mapping.{Mapping}
-
-module _ {E : Type 0} (n : ℕ) (b : Binding E) (bs : List (Binding E)) (le : n ≤ length bs) where
-  -- with a next binding, one more is newer than the first `n`
-  newer_more : length (b ∷ bs) - n ≡ suc (length bs - n)
-  newer_more = omega arith
-
-  -- a next binding is made since there were `n`
-  pub since_more : since n (b ∷ bs) ≡ b ∷ since n bs
-  since_more = rw newer_more
-
-  -- a next binding is not among the oldest `n`
-  pub oldest_more : oldest n (b ∷ bs) ≡ oldest n bs
-  oldest_more = rw newer_more
-
-module _ {E : Type 0} (n : ℕ) (bs : List (Binding E)) (le : length bs ≤ n) where
-  -- of at most `n` bindings, none is newer than the first `n`
-  newer_none : length bs - n ≡ 0
-  newer_none = omega arith
-
-  -- of at most `n` bindings, none is made since there were `n`
-  pub since_none : since n bs ≡ []
-  since_none = rw newer_none
-
-  -- of at most `n` bindings, all are among the oldest `n`
-  pub oldest_all : oldest n bs ≡ bs
-  oldest_all = rw newer_none
-
--- the first `n` elements end with the one at `n - 1`
-take_last : {A : Type 0} (n : ℕ) (xs : List A) (d : A) → 0 < n → n ≤ length xs → take n xs ≡ take (n - 1) xs ++ get_or xs (n - 1) d ∷ []
-take_last n xs d some le = let e : (n - 1) + 1 ≡ n = omega arith in rw e at (take_more xs (n - 1) d (omega arith))
-
--- the first `n` places hold `n` bindings
-pub used_length : {E : Type 0} (n : ℕ) (bs : List (Binding E)) → n ≤ length bs → length (used n bs) ≡ n
-used_length n bs le = length-reverse (take n bs) ∙ length-take-le n bs le
 
 -- a mapping has as many bindings as it counts
 pub bound_length : {E : Type 0} (m : Mapping E) → length (bound m) ≡ m.count
 unfolding bound
-bound_length m = used_length m.count _ m.fits
+bound_length m = length-reverse (take m.count m.bindings.now) ∙ length-take-le m.count _ m.fits
 
--- the binding at the last place in use is the newest
-pub used_last : {E : Type 0} (n : ℕ) (bs : List (Binding E)) (d : Binding E) → 0 < n → n ≤ length bs → used n bs ≡ get_or bs (n - 1) d ∷ used (n - 1) bs
-used_last n bs d some le = ap reverse (take_last n bs d some le) ∙ reverse-append (take (n - 1) bs) (get_or bs (n - 1) d ∷ [])
+module _ {A : Type 0} (n : ℕ) (xs : List A) where
+  -- from the last element to the first: those after the first `n`, and then the first `n`
+  reverse_split : reverse xs ≡ reverse (drop n xs) ++ reverse (take n xs)
+  reverse_split = sym (ap reverse (take-append-drop n xs)) ∙ reverse-append (take n xs) (drop n xs)
 
--- a binding that is written to the next place is the newest
-pub used_set : {E : Type 0} (n : ℕ) (bs : List (Binding E)) (b : Binding E) → n < length bs → used (n + 1) (set bs n b) ≡ b ∷ used n bs
-used_set n bs b lt = ap reverse (take_more_set bs n b lt) ∙ reverse-append (take n bs) (b ∷ [])
+  -- how many elements there are after the first `n`
+  length_after : length (reverse (drop n xs)) ≡ length (reverse xs) - n
+  length_after = simp (length-reverse, length-drop)
 
-module _ {E : Type 0} (slot earlier n : ℕ) (bs : List (Binding E)) (all : Option E)
-    (le : n ≤ length bs) (inv : lookup slot (since earlier (used n bs)) ≡ all) where
-  -- a look-up asks the newest binding, then the ones before
-  lookup_last : (b : Binding E) → earlier < n → b ≡ get_or bs (n - 1) b → lookup slot (b ∷ since earlier (used (n - 1) bs)) ≡ all
-  lookup_last b newer is =
-      let long : earlier ≤ length (used (n - 1) bs) = omega (arith, used_length (n - 1) bs (omega arith)) in
-      rw (used_last n bs b (omega arith) le, ← is, since_more earlier b (used (n - 1) bs) long) at inv
+  -- so those after the first `n` come first
+  take_reverse : take (length (reverse xs) - n) (reverse xs) ≡ reverse (drop n xs)
+  take_reverse = rw (← length_after, reverse_split) (take_at (reverse (drop n xs)) (reverse (take n xs)) _ refl)
 
-  -- it ends at a binding of the slot
-  pub lookup_here : (b : Binding E) → earlier < n → b ≡ get_or bs (n - 1) b → b.slot ≡ slot → Some b.entry ≡ all
-  lookup_here b newer is hit = rw (eq-eqb b.slot slot hit) at (lookup_last b newer is)
+  -- and the first `n` come after them
+  drop_reverse : drop (length (reverse xs) - n) (reverse xs) ≡ reverse (take n xs)
+  drop_reverse = rw (← length_after, reverse_split) (drop_at (reverse (drop n xs)) (reverse (take n xs)) _ refl)
 
-  -- it goes on past a binding of another slot
-  pub lookup_later : (b : Binding E) → earlier < n → b ≡ get_or bs (n - 1) b → (b.slot ≡ slot → ⊥) → lookup slot (since earlier (used (n - 1) bs)) ≡ all
-  lookup_later b newer is miss = rw (ne_eqb b.slot slot miss) at (lookup_last b newer is)
+module _ {E : Type 0} (n : ℕ) (bs : List (Binding E)) where
+  -- a binding that is written to the next place is the newest
+  pub used_set : (b : Binding E) → n < length bs → used (n + 1) (set bs n b) ≡ b ∷ used n bs
+  used_set b lt = ap reverse (take_more_set bs n b lt) ∙ reverse-append (take n bs) (b ∷ [])
 
-  -- it finds nothing where no binding is left
-  pub lookup_none : n ≤ earlier → None ≡ all
-  lookup_none older = rw (since_none earlier (used n bs) (omega (arith, used_length n bs le))) at inv
+  -- the bindings made since there were `earlier` stand at the places from `earlier` up to `n`
+  pub since_used : (earlier : ℕ) → since earlier (used n bs) ≡ reverse (slice_range bs earlier n)
+  since_used earlier = take_reverse earlier (take n bs) ∙ ap reverse (sym (between_is bs earlier n))
 
--- to write over a newer binding, and to leave it out, keeps the oldest
-pub oldest_kept : {E : Type 0} (earlier n : ℕ) (bs : List (Binding E)) (b : Binding E) (all : List (Binding E)) → earlier < n → n ≤ length bs →
-    oldest earlier (used n bs) ≡ all → oldest earlier (used (n - 1) (set bs (n - 1) b)) ≡ all
-oldest_kept earlier n bs b all newer le inv =
-    let long : earlier ≤ length (used (n - 1) bs) = omega (arith, used_length (n - 1) bs (omega arith)) in
-    rw (take-set bs (n - 1) b) (rw (used_last n bs b (omega arith) le, oldest_more earlier (get_or bs (n - 1) b) (used (n - 1) bs) long) at inv)
+  module _ (earlier kept : ℕ) (is : kept ≡ min earlier n) (le : n ≤ length bs) where
+    -- the oldest `earlier` stand at the first places
+    oldest_used : oldest earlier (used n bs) ≡ used kept bs
+    oldest_used =
+        let first : take kept (take n bs) ≡ take earlier (take n bs) = rw (length-take-le n bs le, ← is) at (take_min earlier (take n bs)) in
+        drop_reverse earlier (take n bs) ∙ ap reverse (sym first ∙ take-take kept n bs (omega arith))
 
-module _ {E : Type 0} (blank : E) (n : ℕ) (bs : List (Binding E)) where
-  -- from `n` on nothing was in use, so nothing becomes blank
-  pub blanked_none : (k : ℕ) → n ≤ k → blanked blank k n bs ≡ bs
-  blanked_none k le = let z : n - k ≡ 0 = omega arith in let m : max k n ≡ k = omega arith in rw (z, m) (take-append-drop k bs)
+    module _ (ys : List (Binding E)) where
+      -- a write to the places after them leaves them as they are
+      pub oldest_kept : used kept (put_mid kept (n - kept) bs ys) ≡ oldest earlier (used n bs)
+      oldest_kept = ap reverse (take-put_mid_below kept (n - kept) bs ys kept (omega arith) (omega arith)) ∙ sym oldest_used
 
-  -- a memory keeps its length
-  pub blanked_length : (k : ℕ) → n ≤ length bs → length (blanked blank k n bs) ≡ length bs
-  blanked_length k le = simp (length-append, length-take, length-replicate, length-drop) (omega arith)
+      -- a write of blanks there is what a cut leaves
+      pub blanks_written : (blank : E) → ys ≡ replicate (length ys) (record { slot = 0; entry = blank }) → length ys ≡ n - kept
+          → put_mid kept (n - kept) bs ys ≡ blanked blank earlier n bs
+      blanks_written blank filled len =
+          let more : n - kept ≡ n - earlier = omega arith in
+          let end : kept + (n - kept) ≡ n = omega arith in
+          rw (filled, len, drop-drop (n - kept) kept bs, end, more, is) refl
 
-  -- a blank that is written to the place before is one blank more
-  pub blanked_more : (k : ℕ) (cs : List (Binding E)) (e : E) → 0 < k → k ≤ n → n ≤ length bs → cs ≡ blanked blank k n bs → e ≡ blank →
-      set cs (k - 1) (record { slot = 0; entry = e }) ≡ blanked blank (k - 1) n bs
-  blanked_more k cs e some le fit inv is =
-      let b : Binding E = record { slot = 0; entry = blank } in
-      let long : length (take (k - 1) bs) ≡ k - 1 = length-take-le (k - 1) bs (omega arith) in
-      let more : n - (k - 1) ≡ suc (n - k) = omega arith in
-      let end : max (k - 1) n ≡ max k n = omega arith in
-      rw (inv, is, take_last k bs b some (omega arith), append_assoc, more, end) (set_at (take (k - 1) bs) (get_or bs (k - 1) b) (replicate (n - k) b ++ drop (max k n) bs) b (k - 1) long)
+-- where each call gives `b`, calls one after the other give copies of `b`
+pub copies : {P A : Type 0} (R : P → A → P → Type 0) (b : A) → ((p q : P) (x : A) → R p x q → x ≡ b) → (p q : P) (xs : List A) → FoldsTo R p xs q → xs ≡ replicate (length xs) b
+copies R b same p q [] ran = refl
+copies R b same p q (x ∷ xs) (j, first, rest) = let e = same p j x first in let h = copies R b same j q xs rest in cc
 
-  -- a cut ends at `earlier`, or at `n` where there are no more: the blanks are the same
-  pub blanked_cut : (k earlier : ℕ) → k ≤ earlier → k ≤ n → min earlier n ≤ k → blanked blank k n bs ≡ blanked blank earlier n bs
-  blanked_cut k earlier cut le least =
-      elim (cases_lt earlier n) [
-        | inl lt ↦ (let e : k ≡ earlier = omega arith in ap (λ i. blanked blank i n bs) e)
-        | inr ge ↦ (blanked_none k (omega arith) ∙ sym (blanked_none earlier ge))
-      ]
+-- what the operations of a mapping ask for: how many bindings are in use, the newest and the oldest of them
+pub ruleset in_use = (bound_length, used_set, since_used, oldest_kept)

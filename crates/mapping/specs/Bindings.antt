@@ -1,12 +1,11 @@
 -- A mapping as a list of bindings, the newest first, and the memory that it has for them.
-use Rattle.std.specs.Prelude.{ℕ, ◌-◌, max, cond, List, [], ◌∷◌, ◌++◌, reverse, length, take, drop, replicate, Some, None, Option, ◌==◌}
+use Rattle.std.specs.Prelude.{ℕ, ◌-◌, min, List, ◌++◌, reverse, length, take, drop, replicate, find, Option, option_map, ◌==◌}
 use Rattle.mapping.specs.declared.mapping.Binding.{Binding}
 use Rattle.mapping.specs.declared.mapping.Mapping.{Mapping}
 
 -- the newest entry of a slot
 abbrev pub lookup : {E : Type 0} → ℕ → List (Binding E) → Option E
-lookup slot [] = None
-lookup slot (b ∷ bs) = cond (b.slot == slot) (Some b.entry) (lookup slot bs)
+lookup slot bs = option_map (λ b. b.entry) (find (λ b. b.slot == slot) bs)
 
 -- what the lent slice holds, in use or not
 unfoldable pub memory : {E : Type 0} → Mapping E → List (Binding E)
@@ -34,4 +33,4 @@ oldest n bs = drop (length bs - n) bs
 
 -- a memory with a blank at each place from `first` up to `end`, and elsewhere as it was
 abbrev pub blanked : {E : Type 0} → E → ℕ → ℕ → List (Binding E) → List (Binding E)
-blanked blank first end bs = take first bs ++ (replicate (end - first) (record { slot = 0; entry = blank }) ++ drop (max first end) bs)
+blanked blank first end bs = take (min first end) bs ++ (replicate (end - first) (record { slot = 0; entry = blank }) ++ drop end bs)

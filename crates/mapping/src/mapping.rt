@@ -11,7 +11,7 @@ pub trait Blank: Copy {
 }
 
 /// An entry with the slot that it is bound to.
-#[derive(Clone, Copy)]
+#[derive(Clone, Copy, PartialEq, Eq, Debug)]
 pub struct Binding<E> {
     pub slot: u16,
     pub entry: E,

@@ -1,14 +1,13 @@
 -- The header's rules come first, and no row breaks one of them; then the rules of the tables decide, one after another.
-use Rattle.std.proofs.Common.{◌≡◌, ℕ, Bool, true, false, cond, not, List, is_some, Some, None, Ok, Err, vec_items, Option, Result, Vec, sym, refl, ap, ◌∙◌, inl, inr, lit≤}
+use Rattle.std.proofs.Common.{◌≡◌, ℕ, Bool, true, false, cond, not, List, is_some, Some, None, Ok, Err, Option, Result, sym, refl, ap, ◌∙◌, inl, inr, lit≤}
 use Rattle.std.proofs.lemmas.Bool.{both_ways}
-use Rattle.std.specs.declared.alloc.Global.{Global}
 use Rattle.tables.specs.declared.place.Fault.{Fault}
 use Rattle.tables.specs.declared.place.Table.{Table}
 use Rattle.tables.specs.declared.place.Table.TheVariants as table
 use Rattle.tables.specs.declared.place.TableRule.{TableRule}
 use Rattle.tables.specs.declared.place.TableRule.TheVariants.{Length, Counts, Range, Placement, Shape, Method}
-use Rattle.tables.specs.declared.read.ReadError.{ReadError}
-use Rattle.tables.specs.declared.read.ReadError.TheVariants.{NoMemory, Refused}
+use Rattle.tables.specs.declared.check.CheckError.{CheckError}
+use Rattle.tables.specs.declared.check.CheckError.TheVariants.{NoMemory, Refused}
 use Rattle.tables.specs.declared.tables.Tables.{Tables}
 use Rattle.tables.specs.Layout.{Content, wrong_length, wrong_counts, content, content_of}
 use Rattle.tables.specs.Least.{or_else, under_rule, verdict_of, Judges}
@@ -16,8 +15,7 @@ use Rattle.tables.specs.Places.{rule_number}
 use Rattle.tables.specs.Reading.{header_fault, header_verdict, Reads}
 use Rattle.tables.proofs.First.{In, Rising, some_none}
 use Rattle.tables.proofs.Least.{none_rule, judges}
-use Rattle.model.specs.declared.model.ReadModel.{ReadModel}
-use Rattle.model.specs.Reading.{Checks, JudgesBytes, ReadsModel, table_faults}
+use Rattle.model.specs.Reading.{Checks, JudgesBytes, table_faults}
 use Rattle.model.specs.Rules.{at_header, all_rules, judged_with, case_of, verdict_in, keeps_rules}
 
 sound_header : (t : Table) → at_header false t ≡ false
@@ -79,7 +77,7 @@ pub checked : (bs : List ℕ) (m : Content) (v : Option (Fault TableRule)) → (
 checked bs m v read e =
     decided bs ∙ ap (λ (h : Option (Fault TableRule)). or_else h (table_faults (content_of bs))) read.0 ∙ sym (e ∙ ap table_faults read.1)
 
-pub unread : (bs : List ℕ) (e : ReadError) → Reads bs (Err e) → Checks bs (Err e)
+pub unread : (bs : List ℕ) (e : CheckError TableRule) → Reads bs (Err e) → Checks bs (Err e)
 unread bs NoMemory h = tt
 unread bs (Refused f) h = header_decides bs f h
 
@@ -99,7 +97,7 @@ judged_by : (bs : List ℕ) (v : Option (Fault TableRule)) → verdict_in bs ≡
 unfolding verdict_in
 judged_by bs v e = judges rule_number (case_of bs) rules_complete rules_rising v (sym e)
 
-pub judge_bytes : (bs : List ℕ) (r : Result Tables ReadError) → Checks bs r → JudgesBytes bs r
+pub judge_bytes : (bs : List ℕ) (r : Result Tables (CheckError TableRule)) → Checks bs r → JudgesBytes bs r
 judge_bytes bs (Ok t) h = judged_by bs None h.0
 judge_bytes bs (Err (Refused f)) h = judged_by bs (Some f) h
 judge_bytes bs (Err NoMemory) h = tt
@@ -115,12 +113,3 @@ tables_keep bs t h = ap (λ (v : Option (Fault TableRule)). not (is_some v)) (ta
 
     none : table_faults (content t) ≡ None
     none = ap table_faults h.1 ∙ by (header_verdict bs) refl
-
--- a read model, from the tables that the check gave
-pub read_model : (bytes : Vec ℕ Global) (t : Tables) (m : ReadModel) → Checks (vec_items bytes) (Ok t) → m.bytes ≡ bytes → m.tables ≡ t →
-    ReadsModel bytes (Ok m)
-read_model bytes t m h b e = (h.0, b, ap content e ∙ h.1)
-
-pub unread_model : (bytes : Vec ℕ Global) (e : ReadError) → Checks (vec_items bytes) (Err e) → ReadsModel bytes (Err e)
-unread_model bytes NoMemory h = tt
-unread_model bytes (Refused f) h = h

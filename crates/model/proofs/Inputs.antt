@@ -2,7 +2,7 @@
 use Rattle.std.proofs.Common.{◌≡◌, ℕ, zero, suc, ◌+◌, ◌-◌, ◌*◌, ◌^◌, ◌<◌, ◌≤◌, min, true, false, not, ◌||◌, eqb, ltb, List, [], ◌∷◌, ◌++◌, length, get_or, take, Some, vec_items, sym, refl, ap, ◌∙◌, inl, inr, arith, lit<, lit≤, length-append, length-take}
 use Rattle.std.proofs.lemmas.Bool.Decides.{nat_tests}
 use Rattle.std.proofs.lemmas.List.{take_all, take-take, get_or-take}
-use Rattle.std.proofs.lemmas.Bool.{or_left, or_right, not_from_false, cases_Bool, le-ltb, eq-eqb, ne_eqb}
+use Rattle.std.proofs.lemmas.Bool.{or_left, or_right, not_from_false, cases_Bool, cases_lt, le-ltb, eq-eqb, ne_eqb}
 use Rattle.tables.specs.declared.place.TableRule.TheVariants.{Length, Counts as CountsRule}
 use Rattle.tables.specs.declared.tables.Counts.{Counts}
 use Rattle.tables.specs.Layout.{stated_length, wrong_length, wrong_counts, over_limit, cells_of, header_counts}
@@ -11,7 +11,6 @@ use Rattle.model.specs.Rules.{verdict_in}
 use Rattle.model.specs.Input.{Keeps, model_in}
 use Rattle.model.specs.declared.input.Input.{Input}
 use Rattle.model.proofs.Decides.{header_decides}
-use Rattle.rules.proofs.Walks.{take_clamped}
 
 take_joined : (n : ℕ) (xs ys : List ℕ) → take n (xs ++ ys) ≡ take n xs ++ take (n - length xs) ys
 take_joined n [] ys = let e : n - 0 ≡ n = omega arith in go n (take n ys) e refl
@@ -23,6 +22,13 @@ take_joined zero (x ∷ xs) ys = let e : 0 - suc (length xs) ≡ 0 = omega arith
 take_joined (suc n) (x ∷ xs) ys =
     let e : suc n - suc (length xs) ≡ n - length xs = omega arith in
     rw e (ap (λ (zs : List ℕ). x ∷ zs) (take_joined n xs ys))
+
+take_clamped : {A : Type 0} (ys : List A) (n k : ℕ) → k ≡ min n (length ys) → take k ys ≡ take n ys
+take_clamped ys n k e =
+    elim (cases_lt n (length ys)) [
+      | inl lt ↦ (let h : k ≡ n = omega arith in rw h)
+      | inr ge ↦ (let h : length ys ≤ k = omega arith in rw (take_all k ys h, take_all n ys ge))
+    ]
 
 pub keeps_more : (i i' : Input) (piece input : List ℕ) (k : ℕ) → Keeps i input → k ≡ min (43477 - length (vec_items i.kept)) (length piece) →
     vec_items i'.kept ≡ vec_items i.kept ++ take (k - 0) piece → i'.total ≡ min (i.total + length piece) (2 ^ 64 - 1) → Keeps i' (input ++ piece)

@@ -2,6 +2,7 @@ use crate::input::Input;
 use crate::model::ReadModel;
 use crate::model::reading::check;
 use std::test::Fail;
+use tables::place::Rule;
 use tables::read::ReadError;
 
 /// One type, one class, one method, one node and one statement, which returns the node.

@@ -1,4 +1,1 @@
-mod Claims
-mod Doubles
 mod Held
-mod Tables

@@ -1,5 +1,5 @@
 -- Claims, by which the holders are found: rows claim what they name, one after another, and a thing goes to who claims it first.
-use Rattle.std.specs.Prelude.{ℕ, zero, suc, ◌+◌, List, [], ◌∷◌, length, replicate, Some, None, Option, slice_index_or, slice_set}
+use Rattle.std.specs.Prelude.{ℕ, zero, suc, ◌+◌, List, [], ◌∷◌, length, Some, None, Option, slice_index_or, slice_set}
 use Rattle.tables.specs.declared.place.Place.{Place}
 use Rattle.tables.specs.declared.place.Table.{Table}
 use Rattle.tables.specs.declared.place.Table.TheVariants.{Functions, Classes, Methods, Nodes, Branches, Statements}
@@ -47,22 +47,10 @@ abbrev pub claim_statements : Holders → ℕ → MethodRow → Holders
 claim_statements held r x =
     claim_range (place Methods r) held x.statements_first (extent x.statements_first x.statements_count (length held))
 
--- The holders that the claims of all rows lead to.
-abbrev pub nobody : {A : Type 0} → List A → Holders
-nobody xs = replicate (length xs) None
-
-unfoldable pub claimed_users : Content → Holders
-claimed_users m =
-    let functions : Holders = claim_rows (claim_uses Functions function_uses) (nobody m.nodes) 0 m.functions in
+-- What all rows that use nodes claim.
+abbrev pub claim_nodes : Content → Holders → Holders
+claim_nodes m held =
+    let functions : Holders = claim_rows (claim_uses Functions function_uses) held 0 m.functions in
     let nodes : Holders = claim_rows (claim_uses Nodes node_uses) functions 0 m.nodes in
     let branches : Holders = claim_rows (claim_uses Branches branch_uses) nodes 0 m.branches in
     claim_rows (claim_uses Statements statement_uses) branches 0 m.statements
-
-unfoldable pub claimed_cases : Content → Holders
-claimed_cases m = claim_rows (claim_branches m.branches) (nobody m.branches) 0 m.nodes
-
-unfoldable pub claimed_classes : Content → Holders
-claimed_classes m = claim_rows claim_methods (nobody m.methods) 0 m.classes
-
-unfoldable pub claimed_methods : Content → Holders
-claimed_methods m = claim_rows claim_statements (nobody m.statements) 0 m.methods

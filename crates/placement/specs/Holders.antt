@@ -1,7 +1,7 @@
 -- Who holds what: a node its user, a branch its case, a method its class, a statement its method. The first row that names a
 -- thing holds it.
 use Rattle.std.specs.Prelude.{ℕ, suc, ◌+◌, Bool, true, false, cond, ◌&&◌, List, [], ◌∷◌, map, length, drop, Some, None, Option, ◌==◌, nat_eq, nat_le, nat_lt}
-use Rattle.std.specs.List.{range_with_len}
+use Rattle.std.specs.List.{range_with_len, list_any}
 use Rattle.tables.specs.declared.kinds.NodeKind.{NodeKind}
 use Rattle.tables.specs.declared.kinds.NodeKind.TheVariants as node
 use Rattle.tables.specs.declared.place.Place.{Place}
@@ -15,7 +15,6 @@ use Rattle.tables.specs.Kinds.{node_kind}
 use Rattle.tables.specs.Layout.{Content}
 use Rattle.tables.specs.Least.{or_else}
 use Rattle.rules.specs.Uses.{function_uses, node_uses, branch_uses, statement_uses}
-use Rattle.rules.specs.Words.{some}
 
 -- the holder of each row of a table, if it has one
 abbrev pub Holders : Type 0
@@ -31,7 +30,7 @@ first_row test table r (x ∷ xs) = cond (test x) (Some (place table r)) (first_
 
 -- the thing `k` is one of these, or lies in a range
 abbrev pub among : ℕ → List ℕ → Bool
-among k is = some (nat_eq k) is
+among k is = list_any (nat_eq k) is
 
 abbrev pub in_range : ℕ → ℕ → ℕ → Bool
 in_range k first count = nat_le first k && nat_lt k (first + count)

@@ -1,4 +1,3 @@
 pub mod Claims
 pub mod Holders
-pub mod Index
 pub mod Placement

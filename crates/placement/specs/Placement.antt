@@ -1,13 +1,11 @@
 -- Rule 4, Placement: rows that have to stand lower, and things that have two places. Each test is true of a row that breaks it.
 use Rattle.std.specs.Prelude.{ℕ, Bool, false, not, ◌&&◌, ◌||◌, leb, List, [], ◌∷◌, Some, None, Option, ◌==◌, nat_eq, nat_le, slice_index_or}
+use Rattle.std.specs.List.{list_any}
 use Rattle.tables.specs.declared.kinds.TypeKind.{TypeKind}
 use Rattle.tables.specs.declared.kinds.TypeKind.TheVariants as type
 use Rattle.tables.specs.declared.place.Place.{Place}
-use Rattle.tables.specs.declared.place.Fault.{Fault}
 use Rattle.tables.specs.declared.place.Table.{Table}
 use Rattle.tables.specs.declared.place.Table.TheVariants as table
-use Rattle.tables.specs.declared.place.TableRule.{TableRule}
-use Rattle.tables.specs.declared.place.TableRule.TheVariants.{Placement}
 use Rattle.tables.specs.declared.rows.TypeRow.{TypeRow}
 use Rattle.tables.specs.declared.rows.FunctionRow.{FunctionRow}
 use Rattle.tables.specs.declared.rows.ClassRow.{ClassRow}
@@ -18,8 +16,7 @@ use Rattle.tables.specs.declared.rows.StatementRow.{StatementRow}
 use Rattle.tables.specs.Kinds.{type_kind}
 use Rattle.tables.specs.Layout.{Content}
 use Rattle.tables.specs.Places.{table_number}
-use Rattle.rules.specs.Faults.{table_fault}
-use Rattle.rules.specs.Words.{some, at, part}
+use Rattle.rules.specs.Words.{at, part}
 use Rattle.rules.specs.Uses.{function_uses, node_uses, branch_uses, statement_uses}
 use Rattle.placement.specs.Holders.{Holders, place, reach, node_users, branch_cases, method_classes, statement_methods}
 
@@ -44,15 +41,15 @@ elsewhere by (Some holder) = not (table_number holder.table == table_number by.t
 -- a number that stands twice
 abbrev pub repeated : List ℕ → Bool
 repeated [] = false
-repeated (x ∷ xs) = some (λ y. nat_eq y x) xs || repeated xs
+repeated (x ∷ xs) = list_any (λ y. nat_eq y x) xs || repeated xs
 
 -- A row uses a node of another user, or one node twice.
 abbrev pub reused : Holders → Place → List ℕ → Bool
-reused users by uses = some (λ n. elsewhere by (slice_index_or users n None)) uses || repeated uses
+reused users by uses = list_any (λ n. elsewhere by (slice_index_or users n None)) uses || repeated uses
 
 -- A row's range holds something of another row.
 abbrev pub overlaps : Holders → Place → ℕ → ℕ → Bool
-overlaps held by first count = some (elsewhere by) (part first count held)
+overlaps held by first count = list_any (elsewhere by) (part first count held)
 
 abbrev pub function_placement : Holders → ℕ → FunctionRow → Bool
 function_placement users r x = reused users (place table.Functions r) (function_uses x)
@@ -65,35 +62,20 @@ method_placement methods r x = overlaps methods (place table.Methods r) x.statem
 
 -- A node's children stand lower; a case reaches no branch of another case.
 abbrev pub node_placement : Content → Holders → Holders → ℕ → NodeRow → Bool
-node_placement m users cases r x = some (leb r) (node_uses x)
+node_placement m users cases r x = list_any (leb r) (node_uses x)
     || reused users (place table.Nodes r) (node_uses x)
     || overlaps cases (place table.Nodes r) x.reference (reach m.branches x)
 
 -- The pattern and the body of a branch stand lower than its case.
 abbrev pub above_case : List ℕ → Option Place → Bool
 above_case uses None = false
-above_case uses (Some case) = some (leb case.row) uses
+above_case uses (Some case) = list_any (leb case.row) uses
 
 abbrev pub branch_placement : Holders → Holders → ℕ → BranchRow → Bool
 branch_placement users cases r x = above_case (branch_uses x) (slice_index_or cases r None) || reused users (place table.Branches r) (branch_uses x)
 
 abbrev pub statement_placement : Holders → ℕ → StatementRow → Bool
 statement_placement users r x = reused users (place table.Statements r) (statement_uses x)
-
--- The first fault of each table, where the holders are these.
-abbrev pub faults_in : Content → (users cases classes methods : Holders) → Table → Option (Fault TableRule)
-faults_in m users cases classes methods table.Header = None
-faults_in m users cases classes methods table.Types = table_fault m.types type_placement Placement table.Types
-faults_in m users cases classes methods table.Lists = None
-faults_in m users cases classes methods table.Constructors = None
-faults_in m users cases classes methods table.Functions = table_fault m.functions (function_placement users) Placement table.Functions
-faults_in m users cases classes methods table.Interfaces = None
-faults_in m users cases classes methods table.Signatures = None
-faults_in m users cases classes methods table.Classes = table_fault m.classes (class_placement classes) Placement table.Classes
-faults_in m users cases classes methods table.Methods = table_fault m.methods (method_placement methods) Placement table.Methods
-faults_in m users cases classes methods table.Nodes = table_fault m.nodes (node_placement m users cases) Placement table.Nodes
-faults_in m users cases classes methods table.Branches = table_fault m.branches (branch_placement users cases) Placement table.Branches
-faults_in m users cases classes methods table.Statements = table_fault m.statements (statement_placement users) Placement table.Statements
 
 -- Which places break the rule.
 abbrev pub placement_broken : Content → Table → ℕ → Bool

@@ -2,17 +2,17 @@
 #![tactic(auto)]
 
 ghost use Rattle.std.specs.Prelude.{◌≡◌, ℕ, Bool, List, IfOk, None, ◌==◌, slice_index_or};
+ghost use Rattle.std.specs.List.{list_any};
 ghost use Rattle.tables.specs.Layout.{content};
 ghost use Rattle.rules.specs.Uses.{branch_uses};
-ghost use Rattle.placement.specs.Holders.{reach};
-ghost use Rattle.placement.specs.Placement.{type_placement, elsewhere, repeated, reused, overlaps, function_placement, class_placement, method_placement, node_placement, above_case, branch_placement, statement_placement, faults_in, placement_broken};
-ghost use Rattle.rules.specs.Faults.{rule_fault, places};
+ghost use Rattle.placement.specs.Holders.{reach, node_users, branch_cases, method_classes, statement_methods};
+ghost use Rattle.placement.specs.Placement.{type_placement, elsewhere, repeated, reused, overlaps, function_placement, class_placement, method_placement, node_placement, above_case, branch_placement, statement_placement, placement_broken};
+ghost use Rattle.rules.specs.Faults.{fault_in, rule_fault, places};
 ghost use Rattle.tables.specs.declared.place.TableRule.TheVariants.{Placement};
 
-use holders::reached;
-use index::Index;
+use holders::{branch_cases, method_classes, node_users, place, reached, statement_methods};
 use rules::faults::{RowTest, Tablewise, first_row, first_table};
-use rules::search::{Test, any, part};
+use rules::search::part;
 use rules::uses::{User, uses_from};
 use std::alloc::{AllocError, Global};
 use tables::kinds::TypeKind;
@@ -21,134 +21,101 @@ use tables::rows::{BranchRow, ClassRow, FunctionRow, MethodRow, NodeRow, Stateme
 use tables::tables::Tables;
 
 pub mod holders;
-mod index;
 
-/// Things that another row holds.
-#[derive(Clone, Copy)]
-struct Elsewhere(Place);
-
-impl Test<Option<Place>> for Elsewhere {
-    ghost holds = { λ s x. elsewhere s.0 x };
-
-    fn holds(&self, holder: Option<Place>) -> bool {
-        match holder {
-            None => false,
-            Some(place) => !(place.table.number() == self.0.table.number()
-                && place.row == self.0.row),
-        }
-    }
+/// Whether another row holds the thing.
+fn elsewhere(by: Place, holder: Option<Place>) -> bool
+    ensures elsewhere { result ≡ elsewhere by holder }
+{
+    holder.is_some_and(|place| place != by)
 }
 
-/// Nodes whose user is another row.
-#[derive(Clone, Copy)]
-struct UsedElsewhere<'a> {
-    users: &'a [Option<Place>],
-    by: Place,
-}
-
-impl Test<u16> for UsedElsewhere<'_> {
-    ghost holds = { λ s n. elsewhere s.by (slice_index_or s.users.now n None) };
-
-    fn holds(&self, node: u16) -> bool {
-        Elsewhere(self.by).holds(holder(self.users, node as usize))
-    }
-}
-
-/// Numbers that equal this one.
-#[derive(Clone, Copy)]
-struct Equals(u16);
-
-impl Test<u16> for Equals {
-    ghost holds = { λ s y. (y == s.0) };
-
-    fn holds(&self, number: u16) -> bool {
-        number == self.0
-    }
+/// Whether the number is one of these.
+fn stands_in(numbers: &[u16], number: u16) -> bool
+    ensures stands { result ≡ list_any (λ y. y == number) numbers.now }
+{
+    // not `contains`, which tests several numbers at once: that is slower for the four at most that stand here
+    numbers.iter().any(|other| *other == number)
 }
 
 fn repeated(numbers: &[u16]) -> bool
     ensures repeated { result ≡ repeated numbers.now }
 {
-    let mut left = numbers;
-    while let [first, rest @ ..] = left {
-        if any(rest, &Equals(*first)) {
-            return true;
-        }
-        left = rest;
+    match numbers {
+        [first, rest @ ..] => stands_in(rest, *first) || repeated(rest),
+        [] => false,
     }
-    false
+}
+
+/// Whether another row uses one of the nodes.
+fn used_elsewhere(users: &[Option<Place>], by: Place, nodes: &[u16]) -> bool
+    ensures used { result ≡ list_any (λ n. elsewhere by (slice_index_or users.now n None)) nodes.now }
+{
+    nodes
+        .iter()
+        .any(|node| elsewhere(by, holder(users, *node as usize)))
 }
 
 fn reused<U: User>(users: &[Option<Place>], by: Place, x: U) -> bool
     ensures reused { result ≡ reused users.now by (U.User.uses x) }
 {
     let uses = x.uses();
-    any(uses.as_slice(), &UsedElsewhere { users, by }) || repeated(uses.as_slice())
+    used_elsewhere(users, by, uses.as_slice()) || repeated(uses.as_slice())
 }
 
 fn overlaps(held: &[Option<Place>], by: Place, first: u16, count: usize) -> bool
     ensures overlaps { result ≡ overlaps held.now by first count }
 {
-    any(part(held, first as usize, count), &Elsewhere(by))
+    part(held, first as usize, count)
+        .iter()
+        .any(|holder| elsewhere(by, *holder))
 }
 
-/// The rule over the tables of a model, with the holders in an index.
-#[derive(Clone, Copy)]
+/// The rule over the tables of a model, with the holders of nodes, branches, methods and statements.
+#[derive(Drop)]
 struct PlacementRule<'a> {
     t: &'a Tables,
-    index: &'a Index,
+    users: Vec<Option<Place>>,
+    cases: Vec<Option<Place>>,
+    classes: Vec<Option<Place>>,
+    methods: Vec<Option<Place>>,
+    ghost users_hold: { users.items ≡ node_users (content t.now) },
+    ghost cases_hold: { cases.items ≡ branch_cases (content t.now) },
+    ghost classes_hold: { classes.items ≡ method_classes (content t.now) },
+    ghost methods_hold: { methods.items ≡ statement_methods (content t.now) },
 }
 
 impl RowTest<TypeRow> for PlacementRule<'_> {
-    ghost broken = { λ _ r x. type_placement r x };
+    ghost broken = { λ _. type_placement };
 
     fn breaks(&self, row: usize, x: TypeRow) -> bool {
-        match TypeKind::of(x.kind) {
-            Some(TypeKind::Future) => x.reference as usize >= row,
-            _ => false,
-        }
+        TypeKind::try_from(x.kind) == Ok(TypeKind::Future) && x.reference as usize >= row
     }
 }
 
 impl RowTest<FunctionRow> for PlacementRule<'_> {
-    ghost broken = { λ s r x. function_placement s.index.now.users.items r x };
+    ghost broken = { λ s. function_placement (node_users (content s.t.now)) };
 
     fn breaks(&self, row: usize, x: FunctionRow) -> bool {
-        let by = Place {
-            table: Table::Functions,
-            row,
-        };
-        reused(self.index.users.as_slice(), by, x)
+        reused(&self.users, place(Table::Functions, row), x)
     }
 }
 
 impl RowTest<ClassRow> for PlacementRule<'_> {
-    ghost broken = { λ s r x. class_placement s.index.now.classes.items r x };
+    ghost broken = { λ s. class_placement (method_classes (content s.t.now)) };
 
     fn breaks(&self, row: usize, x: ClassRow) -> bool {
-        let by = Place {
-            table: Table::Classes,
-            row,
-        };
-        overlaps(
-            self.index.classes.as_slice(),
-            by,
-            x.methods_first,
-            x.methods_count as usize,
-        )
+        let by = place(Table::Classes, row);
+        overlaps(&self.classes, by, x.methods_first, x.methods_count as usize)
     }
 }
 
 impl RowTest<MethodRow> for PlacementRule<'_> {
-    ghost broken = { λ s r x. method_placement s.index.now.methods.items r x };
+    ghost broken = { λ s. method_placement (statement_methods (content s.t.now)) };
 
     fn breaks(&self, row: usize, x: MethodRow) -> bool {
-        let by = Place {
-            table: Table::Methods,
-            row,
-        };
+        let by = place(Table::Methods, row);
         overlaps(
-            self.index.methods.as_slice(),
+            &self.methods,
             by,
             x.statements_first,
             x.statements_count as usize,
@@ -156,74 +123,58 @@ impl RowTest<MethodRow> for PlacementRule<'_> {
     }
 }
 
-fn case_overlaps(t: &Tables, cases: &[Option<Place>], by: Place, x: NodeRow) -> bool
-    ensures overlaps { result ≡ overlaps cases.now by x.reference (reach (content t.now).branches x) }
-{
-    overlaps(cases, by, x.reference, reached(t.branches.as_slice(), x))
-}
-
 impl RowTest<NodeRow> for PlacementRule<'_> {
-    ghost broken = { λ s r x. node_placement (content s.t.now) s.index.now.users.items s.index.now.cases.items r x };
+    ghost broken = { λ s. node_placement (content s.t.now) (node_users (content s.t.now)) (branch_cases (content s.t.now)) };
 
     fn breaks(&self, row: usize, x: NodeRow) -> bool {
-        let by = Place {
-            table: Table::Nodes,
-            row,
-        };
+        let by = place(Table::Nodes, row);
         uses_from(row, x)
-            || reused(self.index.users.as_slice(), by, x)
-            || case_overlaps(self.t, self.index.cases.as_slice(), by, x)
+            || reused(&self.users, by, x)
+            || overlaps(&self.cases, by, x.reference, reached(&self.t.branches, x))
     }
 }
 
 fn above_case(case: Option<Place>, x: BranchRow) -> bool
     ensures above { result ≡ above_case (branch_uses x) case }
 {
-    match case {
-        None => false,
-        Some(place) => uses_from(place.row, x),
-    }
+    case.is_some_and(|place| uses_from(place.row, x))
 }
 
 impl RowTest<BranchRow> for PlacementRule<'_> {
-    ghost broken = { λ s r x. branch_placement s.index.now.users.items s.index.now.cases.items r x };
+    ghost broken = { λ s. branch_placement (node_users (content s.t.now)) (branch_cases (content s.t.now)) };
 
     fn breaks(&self, row: usize, x: BranchRow) -> bool {
-        let by = Place {
-            table: Table::Branches,
-            row,
-        };
-        above_case(holder(self.index.cases.as_slice(), row), x)
-            || reused(self.index.users.as_slice(), by, x)
+        let by = place(Table::Branches, row);
+        above_case(holder(&self.cases, row), x) || reused(&self.users, by, x)
     }
 }
 
 impl RowTest<StatementRow> for PlacementRule<'_> {
-    ghost broken = { λ s r x. statement_placement s.index.now.users.items r x };
+    ghost broken = { λ s. statement_placement (node_users (content s.t.now)) };
 
     fn breaks(&self, row: usize, x: StatementRow) -> bool {
-        let by = Place {
-            table: Table::Statements,
-            row,
-        };
-        reused(self.index.users.as_slice(), by, x)
+        reused(&self.users, place(Table::Statements, row), x)
     }
 }
 
 impl Tablewise for PlacementRule<'_> {
-    ghost faults = { λ s table. faults_in (content s.t.now) s.index.now.users.items s.index.now.cases.items s.index.now.classes.items s.index.now.methods.items table };
+    ghost faults = { λ s. fault_in Placement (placement_broken (content s.t.now)) (places (content s.t.now)) };
 
     fn in_table(&self, table: Table) -> Option<Fault<TableRule>> {
         let rule = TableRule::Placement;
         match table {
-            Table::Types => first_row(self.t.types.as_slice(), self, rule, table),
-            Table::Functions => first_row(self.t.functions.as_slice(), self, rule, table),
-            Table::Classes => first_row(self.t.classes.as_slice(), self, rule, table),
-            Table::Methods => first_row(self.t.methods.as_slice(), self, rule, table),
-            Table::Nodes => first_row(self.t.nodes.as_slice(), self, rule, table),
-            Table::Branches => first_row(self.t.branches.as_slice(), self, rule, table),
-            Table::Statements => first_row(self.t.statements.as_slice(), self, rule, table),
-            _ => None,
+            Table::Types => first_row(&self.t.types, self, rule, table),
+            Table::Functions => first_row(&self.t.functions, self, rule, table),
+            Table::Classes => first_row(&self.t.classes, self, rule, table),
+            Table::Methods => first_row(&self.t.methods, self, rule, table),
+            Table::Nodes => first_row(&self.t.nodes, self, rule, table),
+            Table::Branches => first_row(&self.t.branches, self, rule, table),
+            Table::Statements => first_row(&self.t.statements, self, rule, table),
+            Table::Header
+            | Table::Lists
+            | Table::Constructors
+            | Table::Interfaces
+            | Table::Signatures => None,
         }
     }
 }
@@ -232,16 +183,19 @@ impl Tablewise for PlacementRule<'_> {
 pub fn first_fault(heap: Global, t: &Tables) -> Result<Option<Fault<TableRule>>, AllocError>
     ensures first { IfOk result (λ v. v ≡ rule_fault Placement (placement_broken (content t.now)) (places (content t.now))) }
 {
-    let index = Index::new(heap, t)?;
-    Ok(first_table(&PlacementRule { t, index: &index }))
+    let rule = PlacementRule {
+        t,
+        users: node_users(heap, t)?,
+        cases: branch_cases(heap, t)?,
+        classes: method_classes(heap, t)?,
+        methods: statement_methods(heap, t)?,
+    };
+    Ok(first_table(&rule))
 }
 
 /// Who holds the thing at this place, if it is there and anybody does.
 pub fn holder(held: &[Option<Place>], row: usize) -> Option<Place>
     ensures holder { result ≡ slice_index_or held.now row None }
 {
-    if row >= held.len() {
-        return None;
-    }
-    held[row]
+    held.get(row).copied().flatten()
 }

@@ -1,1 +1,1 @@
-mod Tables
+mod Read

@@ -1,16 +1,14 @@
 -- Rule 3, Range: kinds, flags, counts, limits, rows and ranges that are not there. Each test is true of a row that breaks it.
 use Rattle.std.specs.Prelude.{ℕ, ◌+◌, Bool, true, false, not, ◌&&◌, ◌||◌, List, length, Some, None, Option, ◌==◌, nat_eq, nat_le, nat_lt}
+use Rattle.std.specs.List.{list_any}
 use Rattle.tables.specs.declared.kinds.TypeKind.{TypeKind}
 use Rattle.tables.specs.declared.kinds.TypeKind.TheVariants as type
 use Rattle.tables.specs.declared.kinds.NodeKind.{NodeKind}
 use Rattle.tables.specs.declared.kinds.NodeKind.TheVariants as node
 use Rattle.tables.specs.declared.kinds.StatementKind.{StatementKind}
 use Rattle.tables.specs.declared.kinds.StatementKind.TheVariants as statement
-use Rattle.tables.specs.declared.place.Fault.{Fault}
 use Rattle.tables.specs.declared.place.Table.{Table}
 use Rattle.tables.specs.declared.place.Table.TheVariants as table
-use Rattle.tables.specs.declared.place.TableRule.{TableRule}
-use Rattle.tables.specs.declared.place.TableRule.TheVariants.{Range}
 use Rattle.tables.specs.declared.rows.TypeRow.{TypeRow}
 use Rattle.tables.specs.declared.rows.ListRow.{ListRow}
 use Rattle.tables.specs.declared.rows.ConstructorRow.{ConstructorRow}
@@ -24,8 +22,7 @@ use Rattle.tables.specs.declared.rows.BranchRow.{BranchRow}
 use Rattle.tables.specs.declared.rows.StatementRow.{StatementRow}
 use Rattle.tables.specs.Kinds.{type_kind, node_kind, statement_kind}
 use Rattle.tables.specs.Layout.{Content}
-use Rattle.rules.specs.Faults.{table_fault}
-use Rattle.rules.specs.Words.{some, at, absent, past_end}
+use Rattle.rules.specs.Words.{at, absent, past_end}
 use Rattle.rules.specs.Uses.{function_uses, node_uses, branch_uses, statement_uses}
 
 -- A type: a kind that there is, and what a data, an interface or a future refers to.
@@ -34,7 +31,7 @@ type_absent m ref None = true
 type_absent m ref (Some type.Unit) = false
 type_absent m ref (Some type.Bool) = false
 type_absent m ref (Some type.Int) = false
-type_absent m ref (Some type.Data) = not (some (λ c. nat_eq c.number ref) m.constructors)
+type_absent m ref (Some type.Data) = not (list_any (λ c. nat_eq c.number ref) m.constructors)
 type_absent m ref (Some type.Interface) = absent ref m.interfaces
 type_absent m ref (Some type.Future) = absent ref m.types
 
@@ -58,7 +55,7 @@ constructor_range m x = parameters_range m x.first x.count
 
 -- Nodes that a row uses.
 abbrev pub uses_absent : Content → List ℕ → Bool
-uses_absent m uses = some (nat_le (length m.nodes)) uses
+uses_absent m uses = list_any (nat_le (length m.nodes)) uses
 
 abbrev pub function_range : Content → FunctionRow → Bool
 function_range m x = absent x.result m.types || slots_range m x.slots_first x.parameters x.slots || uses_absent m (function_uses x)
@@ -188,18 +185,3 @@ range_broken m table.Methods r = at m.methods r (method_range m)
 range_broken m table.Nodes r = at m.nodes r (node_range m)
 range_broken m table.Branches r = at m.branches r (branch_range m r)
 range_broken m table.Statements r = at m.statements r (statement_range m)
-
--- The first fault of each table.
-abbrev pub range_faults : Content → Table → Option (Fault TableRule)
-range_faults m table.Header = None
-range_faults m table.Types = table_fault m.types (λ r x. type_range m x) Range table.Types
-range_faults m table.Lists = table_fault m.lists (λ r x. list_range m x) Range table.Lists
-range_faults m table.Constructors = table_fault m.constructors (λ r x. constructor_range m x) Range table.Constructors
-range_faults m table.Functions = table_fault m.functions (λ r x. function_range m x) Range table.Functions
-range_faults m table.Interfaces = table_fault m.interfaces (λ r x. interface_range m x) Range table.Interfaces
-range_faults m table.Signatures = table_fault m.signatures (λ r x. signature_range m x) Range table.Signatures
-range_faults m table.Classes = table_fault m.classes (λ r x. class_range m x) Range table.Classes
-range_faults m table.Methods = table_fault m.methods (λ r x. method_range m x) Range table.Methods
-range_faults m table.Nodes = table_fault m.nodes (λ r x. node_range m x) Range table.Nodes
-range_faults m table.Branches = table_fault m.branches (λ r x. branch_range m r x) Range table.Branches
-range_faults m table.Statements = table_fault m.statements (λ r x. statement_range m x) Range table.Statements

@@ -1,14 +1,14 @@
 //! Rule 3, Range: whether a row has a kind, a flag, a count, a limit, a row or a range that is not there.
 #![tactic(auto)]
 
-ghost use Rattle.std.specs.Prelude.{◌≡◌, ℕ, ◌+◌, ◌<◌, Bool, List, length, ◌==◌, nat_lt};
+ghost use Rattle.std.specs.Prelude.{◌≡◌, ℕ, ◌+◌, ◌<◌, Bool, Some, List, length, ◌==◌, nat_eq, nat_lt};
+ghost use Rattle.std.specs.List.{list_any};
 ghost use Rattle.tables.specs.Layout.{content};
-ghost use Rattle.range.specs.Range.{type_range, list_range, parameters_range, slots_range, constructor_range, uses_absent, function_range, interface_range, signature_range, class_range, method_range, node_counts, wrong_count, node_absent, node_range, branch_range, statement_counts, statement_absent, statement_range, range_broken, range_faults};
-ghost use Rattle.rules.specs.Faults.{rule_fault, places};
+ghost use Rattle.range.specs.Range.{type_range, list_range, parameters_range, slots_range, constructor_range, uses_absent, function_range, interface_range, signature_range, class_range, method_range, node_counts, wrong_count, node_absent, node_range_as, node_range, branch_range, statement_counts, statement_absent, statement_range_as, statement_range, range_broken};
+ghost use Rattle.rules.specs.Faults.{fault_in, rule_fault, places};
 ghost use Rattle.tables.specs.declared.place.TableRule.TheVariants.{Range};
 
 use rules::faults::{RowTest, Tablewise, first_row, first_table};
-use rules::search::{Test, any};
 use rules::uses::{User, uses_from};
 use tables::kinds::{NodeKind, StatementKind, TypeKind};
 use tables::place::{Fault, Table, TableRule};
@@ -22,34 +22,29 @@ use tables::tables::Tables;
 #[derive(Clone, Copy)]
 struct RangeRule<'a>(&'a Tables);
 
-/// Constructors of the data of this number.
-#[derive(Clone, Copy)]
-struct OfData(u16);
-
-impl Test<ConstructorRow> for OfData {
-    ghost holds = { λ s x. (x.number == s.0) };
-
-    fn holds(&self, row: ConstructorRow) -> bool {
-        row.number == self.0
-    }
-}
-
 fn past_end(first: u16, count: u16, rows: usize) -> bool
     ensures past { result ≡ nat_lt rows (first + count) }
 {
     first as usize + count as usize > rows
 }
 
+/// Whether the data of this number has a constructor.
+fn has_constructor(t: &Tables, number: u16) -> bool
+    ensures constructor { result ≡ list_any (λ c. nat_eq c.number number) (content t.now).constructors }
+{
+    t.constructors.iter().any(|y| y.number == number)
+}
+
 impl RowTest<TypeRow> for RangeRule<'_> {
     ghost broken = { λ s r x. type_range (content s.0.now) x };
 
     fn breaks(&self, _row: usize, x: TypeRow) -> bool {
-        match TypeKind::of(x.kind) {
-            None => true,
-            Some(TypeKind::Unit | TypeKind::Bool | TypeKind::Int) => false,
-            Some(TypeKind::Data) => !any(self.0.constructors.as_slice(), &OfData(x.reference)),
-            Some(TypeKind::Interface) => x.reference as usize >= self.0.interfaces.len(),
-            Some(TypeKind::Future) => x.reference as usize >= self.0.types.len(),
+        match TypeKind::try_from(x.kind) {
+            Err(_) => true,
+            Ok(TypeKind::Unit | TypeKind::Bool | TypeKind::Int) => false,
+            Ok(TypeKind::Data) => !has_constructor(self.0, x.reference),
+            Ok(TypeKind::Interface) => x.reference as usize >= self.0.interfaces.len(),
+            Ok(TypeKind::Future) => x.reference as usize >= self.0.types.len(),
         }
     }
 }
@@ -173,16 +168,22 @@ fn node_absent(t: &Tables, reference: u16, kind: NodeKind) -> bool
     }
 }
 
+fn node_range(t: &Tables, x: NodeRow, kind: NodeKind) -> bool
+    ensures range { result ≡ node_range_as (content t.now) x (Some kind) }
+{
+    wrong_count(node_counts(kind), x.count)
+        || node_absent(t, x.reference, kind)
+        || uses_absent(t, x)
+}
+
 impl RowTest<NodeRow> for RangeRule<'_> {
     ghost broken = { λ s r x. node_range (content s.0.now) x };
 
     fn breaks(&self, _row: usize, x: NodeRow) -> bool {
-        let Some(kind) = NodeKind::of(x.kind) else {
+        let Ok(kind) = NodeKind::try_from(x.kind) else {
             return true;
         };
-        wrong_count(node_counts(kind), x.count)
-            || node_absent(self.0, x.reference, kind)
-            || uses_absent(self.0, x)
+        node_range(self.0, x, kind)
     }
 }
 
@@ -226,61 +227,43 @@ fn statement_absent(t: &Tables, x: StatementRow, kind: StatementKind) -> bool
     }
 }
 
+fn statement_range(t: &Tables, x: StatementRow, kind: StatementKind) -> bool
+    ensures range { result ≡ statement_range_as (content t.now) x (Some kind) }
+{
+    wrong_count(statement_counts(kind), x.count)
+        || statement_absent(t, x, kind)
+        || uses_absent(t, x)
+}
+
 impl RowTest<StatementRow> for RangeRule<'_> {
     ghost broken = { λ s r x. statement_range (content s.0.now) x };
 
     fn breaks(&self, _row: usize, x: StatementRow) -> bool {
-        let Some(kind) = StatementKind::of(x.kind) else {
+        let Ok(kind) = StatementKind::try_from(x.kind) else {
             return true;
         };
-        wrong_count(statement_counts(kind), x.count)
-            || statement_absent(self.0, x, kind)
-            || uses_absent(self.0, x)
+        statement_range(self.0, x, kind)
     }
 }
 
 impl Tablewise for RangeRule<'_> {
-    ghost faults = { λ s table. range_faults (content s.0.now) table };
+    ghost faults = { λ s table. fault_in Range (range_broken (content s.0.now)) (places (content s.0.now)) table };
 
     fn in_table(&self, table: Table) -> Option<Fault<TableRule>> {
+        let rule = TableRule::Range;
         match table {
             Table::Header => None,
-            Table::Types => first_row(self.0.types.as_slice(), self, TableRule::Range, table),
-            Table::Lists => first_row(self.0.lists.as_slice(), self, TableRule::Range, table),
-            Table::Constructors => first_row(
-                self.0.constructors.as_slice(),
-                self,
-                TableRule::Range,
-                table,
-            ),
-            Table::Functions => first_row(
-                self.0.functions.as_slice(),
-                self,
-                TableRule::Range,
-                table,
-            ),
-            Table::Interfaces => first_row(
-                self.0.interfaces.as_slice(),
-                self,
-                TableRule::Range,
-                table,
-            ),
-            Table::Signatures => first_row(
-                self.0.signatures.as_slice(),
-                self,
-                TableRule::Range,
-                table,
-            ),
-            Table::Classes => first_row(self.0.classes.as_slice(), self, TableRule::Range, table),
-            Table::Methods => first_row(self.0.methods.as_slice(), self, TableRule::Range, table),
-            Table::Nodes => first_row(self.0.nodes.as_slice(), self, TableRule::Range, table),
-            Table::Branches => first_row(self.0.branches.as_slice(), self, TableRule::Range, table),
-            Table::Statements => first_row(
-                self.0.statements.as_slice(),
-                self,
-                TableRule::Range,
-                table,
-            ),
+            Table::Types => first_row(&self.0.types, self, rule, table),
+            Table::Lists => first_row(&self.0.lists, self, rule, table),
+            Table::Constructors => first_row(&self.0.constructors, self, rule, table),
+            Table::Functions => first_row(&self.0.functions, self, rule, table),
+            Table::Interfaces => first_row(&self.0.interfaces, self, rule, table),
+            Table::Signatures => first_row(&self.0.signatures, self, rule, table),
+            Table::Classes => first_row(&self.0.classes, self, rule, table),
+            Table::Methods => first_row(&self.0.methods, self, rule, table),
+            Table::Nodes => first_row(&self.0.nodes, self, rule, table),
+            Table::Branches => first_row(&self.0.branches, self, rule, table),
+            Table::Statements => first_row(&self.0.statements, self, rule, table),
         }
     }
 }

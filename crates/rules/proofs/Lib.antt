@@ -1,3 +1,2 @@
-mod Columns
 pub mod Searches
 pub mod Walks

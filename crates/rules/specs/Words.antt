@@ -1,21 +1,14 @@
 -- Words that every rule may use: rows and ranges of a table, and tests of its rows.
-use Rattle.std.specs.Prelude.{ℕ, zero, suc, ◌+◌, ◌-◌, Bool, false, cond, ◌||◌, List, [], ◌∷◌, length, take, drop, Some, None, Option, nat_le, nat_lt}
+use Rattle.std.specs.Prelude.{ℕ, ◌+◌, ◌-◌, Bool, false, List, length, take, drop, Some, None, Option, nat_le, nat_lt, slice_get}
 
--- one of the rows passes the test
-abbrev pub some : {A : Type 0} → (A → Bool) → List A → Bool
-some p [] = false
-some p (x ∷ xs) = p x || some p xs
-
--- the first row that passes the test
-abbrev pub first_that : {A : Type 0} → (A → Bool) → List A → Option A
-first_that p [] = None
-first_that p (x ∷ xs) = cond (p x) (Some x) (first_that p xs)
+-- a thing that is there and passes the test
+abbrev pub passes : {A : Type 0} → Option A → (A → Bool) → Bool
+passes None p = false
+passes (Some x) p = p x
 
 -- the row at `i`, if there is one, passes the test
 abbrev pub at : {A : Type 0} → List A → ℕ → (A → Bool) → Bool
-at [] i p = false
-at (x ∷ xs) zero p = p x
-at (x ∷ xs) (suc i) p = at xs i p
+at xs i p = passes (slice_get xs i) p
 
 -- there is no row `i`
 abbrev pub absent : {A : Type 0} → ℕ → List A → Bool

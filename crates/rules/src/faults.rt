@@ -17,12 +17,12 @@ pub trait RowTest<R> {
 }
 
 /// The first row of a table that breaks the rule.
-pub fn first_row<R: Copy, T: RowTest<R>>(
+pub fn first_row<R: Copy, T: RowTest<R>, K: Copy>(
     rows: &[R],
     test: &T,
-    rule: TableRule,
+    rule: K,
     table: Table,
-) -> Option<Fault<TableRule>>
+) -> Option<Fault<K>>
     ensures first { result ≡ table_fault rows.now (T.RowTest.broken test.now) rule table }
 {
     for (row, x) in rows.iter().enumerate() {
@@ -46,9 +46,8 @@ fn first_among<J: Tablewise>(judge: &J, tables: &[Table]) -> Option<Fault<TableR
     ensures first { result ≡ first_in (J.Tablewise.faults judge.now) tables.now }
 {
     for table in tables {
-        let fault = judge.in_table(*table);
-        if fault.is_some() {
-            return fault;
+        if let Some(fault) = judge.in_table(*table) {
+            return Some(fault);
         }
     }
     None

@@ -1,3 +1,2 @@
-mod SameTypes
 mod Shared
 mod Tables

@@ -1,10 +1,13 @@
 -- The earliest signature that some interface holds together with a given one.
-use Rattle.std.specs.Prelude.{ℕ, ◌+◌, min, Bool, cond, ◌&&◌, List, [], ◌∷◌, nat_le, nat_lt}
+use Rattle.std.specs.Prelude.{ℕ, ◌+◌, min, Bool, cond, ◌&&◌, List, fold, nat_le, nat_lt}
 use Rattle.tables.specs.declared.rows.InterfaceRow.{InterfaceRow}
 
 abbrev pub holds_row : ℕ → InterfaceRow → Bool
 holds_row r i = nat_le i.first r && nat_lt r (i.first + i.count)
 
+-- the lower of a row and the first of an interface, where that holds row `r`
+abbrev pub lowered : ℕ → ℕ → InterfaceRow → ℕ
+lowered r low i = cond (holds_row r i) (min low i.first) low
+
 abbrev pub earliest_from : ℕ → ℕ → List InterfaceRow → ℕ
-earliest_from low r [] = low
-earliest_from low r (i ∷ is) = earliest_from (cond (holds_row r i) (min low i.first) low) r is
+earliest_from low r is = fold (lowered r) low is

@@ -1,11 +1,9 @@
 -- Rule 5, Shape: types, names, defaults, classes and methods. Each test is true of a row that breaks it.
 use Rattle.std.specs.Prelude.{ℕ, ◌+◌, Bool, true, false, cond, not, ◌&&◌, ◌||◌, List, [], ◌∷◌, take, Some, None, Option, ◌==◌, nat_eq, nat_le, nat_lt, slice_index_or}
-use Rattle.tables.specs.declared.place.Fault.{Fault}
+use Rattle.std.specs.List.{list_any}
 use Rattle.tables.specs.declared.place.Place.{Place}
 use Rattle.tables.specs.declared.place.Table.{Table}
 use Rattle.tables.specs.declared.place.Table.TheVariants as table
-use Rattle.tables.specs.declared.place.TableRule.{TableRule}
-use Rattle.tables.specs.declared.place.TableRule.TheVariants.{Shape}
 use Rattle.tables.specs.declared.rows.TypeRow.{TypeRow}
 use Rattle.tables.specs.declared.rows.ListRow.{ListRow}
 use Rattle.tables.specs.declared.rows.ConstructorRow.{ConstructorRow}
@@ -14,27 +12,25 @@ use Rattle.tables.specs.declared.rows.SignatureRow.{SignatureRow}
 use Rattle.tables.specs.declared.rows.ClassRow.{ClassRow}
 use Rattle.tables.specs.declared.rows.MethodRow.{MethodRow}
 use Rattle.tables.specs.Layout.{Content}
-use Rattle.tables.specs.Least.{fault}
-use Rattle.rules.specs.Faults.{table_fault}
-use Rattle.rules.specs.Words.{some, at, part, between}
+use Rattle.rules.specs.Words.{at, part, between}
 use Rattle.rules.specs.Types.{same_type, is_unit, is_plain, is_interface}
 use Rattle.placement.specs.Holders.{Holders, method_classes}
 
 -- A type that an earlier row is already.
 abbrev pub type_shape : Content → ℕ → TypeRow → Bool
-type_shape m r x = some (same_type x) (take r m.types)
+type_shape m r x = list_any (same_type x) (take r m.types)
 
 -- The first constructor of a data, its default, that takes parameters.
 abbrev pub constructor_shape : Content → ℕ → ConstructorRow → Bool
-constructor_shape m r x = nat_lt 0 x.count && not (some (λ y. nat_eq y.number x.number) (take r m.constructors))
+constructor_shape m r x = nat_lt 0 x.count && not (list_any (λ y. nat_eq y.number x.number) (take r m.constructors))
 
 -- A signature whose name an earlier one of an interface has that holds both.
 abbrev pub shares_name : Content → ℕ → SignatureRow → InterfaceRow → Bool
 shares_name m r x i = nat_le i.first r && nat_lt r (i.first + i.count)
-    && some (λ y. nat_eq y.name x.name) (between i.first r m.signatures)
+    && list_any (λ y. nat_eq y.name x.name) (between i.first r m.signatures)
 
 abbrev pub signature_shape : Content → ℕ → SignatureRow → Bool
-signature_shape m r x = some (shares_name m r x) m.interfaces
+signature_shape m r x = list_any (shares_name m r x) m.interfaces
 
 -- A class that lists something else than interfaces, an outside class with fields, and what class 0 may not be: outside, with fields,
 -- without methods, or with a first method that takes something or returns something else than Unit.
@@ -48,7 +44,7 @@ abbrev pub not_first : Content → ClassRow → Bool
 not_first m x = x.outside == 1 || nat_lt 0 x.fields || x.methods_count == 0 || at m.methods x.methods_first (not_main m)
 
 abbrev pub class_shape : Content → ℕ → ClassRow → Bool
-class_shape m r x = some (not_interface m) (part x.interfaces_first x.interfaces_count m.lists)
+class_shape m r x = list_any (not_interface m) (part x.interfaces_first x.interfaces_count m.lists)
     || (x.outside == 1 && nat_lt 0 x.fields)
     || (r == 0 && not_first m x)
 
@@ -59,7 +55,7 @@ not_plain m x = not (at m.types x.entry is_plain)
 abbrev pub outside_method_shape : Content → MethodRow → Bool
 outside_method_shape m x = nat_lt 0 x.statements_count
     || not (at m.types x.result is_plain)
-    || some (not_plain m) (part x.slots_first x.parameters m.lists)
+    || list_any (not_plain m) (part x.slots_first x.parameters m.lists)
 
 -- A method of any other class, or of no class, without a statement.
 abbrev pub inside_method_shape : MethodRow → Bool
@@ -67,7 +63,7 @@ inside_method_shape x = x.statements_count == 0
 
 -- A method whose name an earlier one of its class has.
 abbrev pub repeats_name : Content → ℕ → MethodRow → ClassRow → Bool
-repeats_name m r x c = some (λ y. nat_eq y.name x.name) (between c.methods_first r m.methods)
+repeats_name m r x c = list_any (λ y. nat_eq y.name x.name) (between c.methods_first r m.methods)
 
 abbrev pub method_shape_in : Content → ℕ → MethodRow → ClassRow → Bool
 method_shape_in m r x c = repeats_name m r x c || cond (c.outside == 1) (outside_method_shape m x) (inside_method_shape x)
@@ -78,26 +74,6 @@ method_shape_of m r x (Some class) = at m.classes class.row (method_shape_in m r
 
 abbrev pub method_shape : Content → Holders → ℕ → MethodRow → Bool
 method_shape m classes r x = method_shape_of m r x (slice_index_or classes r None)
-
--- The first fault of the classes; where there is none, class 0 has not its shape.
-abbrev pub class_fault : Content → List ClassRow → Option (Fault TableRule)
-class_fault m [] = Some (fault Shape table.Classes 0)
-class_fault m (x ∷ xs) = table_fault (x ∷ xs) (class_shape m) Shape table.Classes
-
--- The first fault of each table, where the classes of the methods are these.
-abbrev pub faults_in : Content → Holders → Table → Option (Fault TableRule)
-faults_in m classes table.Header = None
-faults_in m classes table.Types = table_fault m.types (type_shape m) Shape table.Types
-faults_in m classes table.Lists = None
-faults_in m classes table.Constructors = table_fault m.constructors (constructor_shape m) Shape table.Constructors
-faults_in m classes table.Functions = None
-faults_in m classes table.Interfaces = None
-faults_in m classes table.Signatures = table_fault m.signatures (signature_shape m) Shape table.Signatures
-faults_in m classes table.Classes = class_fault m m.classes
-faults_in m classes table.Methods = table_fault m.methods (method_shape m classes) Shape table.Methods
-faults_in m classes table.Nodes = None
-faults_in m classes table.Branches = None
-faults_in m classes table.Statements = None
 
 -- Which places break the rule. Without a class the place of class 0 does.
 abbrev pub classes_broken : Content → List ClassRow → ℕ → Bool

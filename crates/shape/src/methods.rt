@@ -1,141 +1,99 @@
 //! Rule 6, Method: whether a class lacks a method for a signature of its interfaces.
 ghost use Rattle.std.specs.Prelude.{◌≡◌, ℕ, Bool};
+ghost use Rattle.std.specs.List.{list_any, list_all, zip};
 ghost use Rattle.tables.specs.Layout.{content};
-ghost use Rattle.rules.specs.Types.{same_type};
-ghost use Rattle.rules.specs.Words.{at, part};
-ghost use Rattle.shape.specs.Methods.{same_type_at, same_types, fits, lacks_signature, lacks_interface, lacks_type, lacks_listed, class_method, faults_in, method_broken};
-ghost use Rattle.rules.specs.Faults.{rule_fault, places};
+ghost use Rattle.rules.specs.Words.{part};
+ghost use Rattle.shape.specs.Methods.{same_type_at, same_types, fits, lacks_signature, lacks_interface, lacks_type, lacks_listed, class_method, method_broken};
+ghost use Rattle.rules.specs.Faults.{fault_in, rule_fault, places};
 ghost use Rattle.tables.specs.declared.place.TableRule.TheVariants.{Method};
 
 use rules::faults::{RowTest, Tablewise, first_row, first_table};
-use rules::search::{Test, any, part, test_at};
-use rules::types::{IsInterface, SameType};
+use rules::search::part;
+use rules::types::{is_interface, same_type};
 use tables::place::{Fault, Table, TableRule};
 use tables::rows::{ClassRow, InterfaceRow, ListRow, MethodRow, SignatureRow, TypeRow};
 use tables::tables::Tables;
 
-/// Types that are the type in this row.
-#[derive(Clone, Copy)]
-struct IsTypeAt<'a> {
-    types: &'a [TypeRow],
-    row: usize,
-}
-
-impl Test<TypeRow> for IsTypeAt<'_> {
-    ghost holds = { λ s x. at s.types.now s.row (same_type x) };
-
-    fn holds(&self, x: TypeRow) -> bool {
-        test_at(self.types, self.row, &SameType(x))
-    }
-}
-
 fn same_type_at(t: &Tables, i: u16, j: u16) -> bool
     ensures same { result ≡ same_type_at (content t.now) i j }
 {
-    let types = t.types.as_slice();
-    test_at(
-        types,
-        i as usize,
-        &IsTypeAt {
-            types,
-            row: j as usize,
-        },
-    )
+    match (t.types.get(i as usize), t.types.get(j as usize)) {
+        (Some(x), Some(y)) => same_type(*x, *y),
+        _ => false,
+    }
+}
+
+/// Whether the entries are the same types, as far as both lists have some.
+fn same_entries(t: &Tables, xs: &[ListRow], ys: &[ListRow]) -> bool
+    ensures same { result ≡ list_all (λ p. same_type_at (content t.now) p.0.entry p.1.entry) (zip xs.now ys.now) }
+{
+    xs.iter()
+        .zip(ys)
+        .all(|(x, y)| same_type_at(t, x.entry, y.entry))
 }
 
 fn same_types(t: &Tables, xs: &[ListRow], ys: &[ListRow]) -> bool
     ensures same { result ≡ same_types (content t.now) xs.now ys.now }
 {
-    if xs.len() != ys.len() {
-        return false;
-    }
-    for i in 0..xs.len() {
-        if !same_type_at(t, xs[i].entry, ys[i].entry) {
-            return false;
-        }
-    }
-    true
-}
-
-/// Methods that are as this signature says.
-#[derive(Clone, Copy)]
-struct Fits<'a> {
-    t: &'a Tables,
-    signature: SignatureRow,
+    xs.len() == ys.len() && same_entries(t, xs, ys)
 }
 
 fn same_parameters(t: &Tables, s: SignatureRow, x: MethodRow) -> bool
     ensures same { result ≡ same_types (content t.now) (part s.first s.count (content t.now).lists) (part x.slots_first x.parameters (content t.now).lists) }
 {
-    let lists = t.lists.as_slice();
-    let wanted = part(lists, s.first as usize, s.count as usize);
-    same_types(
-        t,
-        wanted,
-        part(lists, x.slots_first as usize, x.parameters as usize),
-    )
+    let wanted = part(&t.lists, s.first as usize, s.count as usize);
+    let taken = part(&t.lists, x.slots_first as usize, x.parameters as usize);
+    same_types(t, wanted, taken)
 }
 
-impl Test<MethodRow> for Fits<'_> {
-    ghost holds = { λ s x. fits (content s.t.now) s.signature x };
-
-    fn holds(&self, x: MethodRow) -> bool {
-        x.name == self.signature.name
-            && same_type_at(self.t, self.signature.result, x.result)
-            && same_parameters(self.t, self.signature, x)
-    }
+/// Whether the method is as the signature says.
+fn fits(t: &Tables, s: SignatureRow, x: MethodRow) -> bool
+    ensures fits { result ≡ fits (content t.now) s x }
+{
+    x.name == s.name && same_type_at(t, s.result, x.result) && same_parameters(t, s, x)
 }
 
-/// What this class lacks.
-#[derive(Clone, Copy)]
-struct Lacks<'a> {
-    t: &'a Tables,
-    class: ClassRow,
+/// Whether a method of the class is as the signature says.
+fn has_method(t: &Tables, class: ClassRow, s: SignatureRow) -> bool
+    ensures has { result ≡ list_any (fits (content t.now) s) (part class.methods_first class.methods_count (content t.now).methods) }
+{
+    let methods = part(
+        &t.methods,
+        class.methods_first as usize,
+        class.methods_count as usize,
+    );
+    methods.iter().any(|x| fits(t, s, *x))
 }
 
-impl Test<SignatureRow> for Lacks<'_> {
-    ghost holds = { λ s x. lacks_signature (content s.t.now) s.class x };
-
-    fn holds(&self, signature: SignatureRow) -> bool {
-        let t = self.t;
-        let methods = part(
-            t.methods.as_slice(),
-            self.class.methods_first as usize,
-            self.class.methods_count as usize,
-        );
-        !any(methods, &Fits { t, signature })
-    }
+fn lacks_signature(t: &Tables, class: ClassRow, s: SignatureRow) -> bool
+    ensures lacks { result ≡ lacks_signature (content t.now) class s }
+{
+    !has_method(t, class, s)
 }
 
-impl Test<InterfaceRow> for Lacks<'_> {
-    ghost holds = { λ s x. lacks_interface (content s.t.now) s.class x };
-
-    fn holds(&self, x: InterfaceRow) -> bool {
-        any(
-            part(
-                self.t.signatures.as_slice(),
-                x.first as usize,
-                x.count as usize,
-            ),
-            self,
-        )
-    }
+fn lacks_interface(t: &Tables, class: ClassRow, x: InterfaceRow) -> bool
+    ensures lacks { result ≡ lacks_interface (content t.now) class x }
+{
+    part(&t.signatures, x.first as usize, x.count as usize)
+        .iter()
+        .any(|s| lacks_signature(t, class, *s))
 }
 
-impl Test<TypeRow> for Lacks<'_> {
-    ghost holds = { λ s x. lacks_type (content s.t.now) s.class x };
-
-    fn holds(&self, x: TypeRow) -> bool {
-        IsInterface.holds(x) && test_at(self.t.interfaces.as_slice(), x.reference as usize, self)
-    }
+fn lacks_type(t: &Tables, class: ClassRow, x: TypeRow) -> bool
+    ensures lacks { result ≡ lacks_type (content t.now) class x }
+{
+    is_interface(x)
+        && t.interfaces
+            .get(x.reference as usize)
+            .is_some_and(|y| lacks_interface(t, class, *y))
 }
 
-impl Test<ListRow> for Lacks<'_> {
-    ghost holds = { λ s x. lacks_listed (content s.t.now) s.class x };
-
-    fn holds(&self, x: ListRow) -> bool {
-        test_at(self.t.types.as_slice(), x.entry as usize, self)
-    }
+fn lacks_listed(t: &Tables, class: ClassRow, x: ListRow) -> bool
+    ensures lacks { result ≡ lacks_listed (content t.now) class x }
+{
+    t.types
+        .get(x.entry as usize)
+        .is_some_and(|y| lacks_type(t, class, *y))
 }
 
 /// The rule over the tables of a model.
@@ -146,23 +104,32 @@ impl RowTest<ClassRow> for MethodRule<'_> {
     ghost broken = { λ s r x. class_method (content s.0.now) x };
 
     fn breaks(&self, _row: usize, class: ClassRow) -> bool {
-        let t = self.0;
         let listed = part(
-            t.lists.as_slice(),
+            &self.0.lists,
             class.interfaces_first as usize,
             class.interfaces_count as usize,
         );
-        any(listed, &Lacks { t, class })
+        listed.iter().any(|x| lacks_listed(self.0, class, *x))
     }
 }
 
 impl Tablewise for MethodRule<'_> {
-    ghost faults = { λ s table. faults_in (content s.0.now) table };
+    ghost faults = { λ s table. fault_in Method (method_broken (content s.0.now)) (places (content s.0.now)) table };
 
     fn in_table(&self, table: Table) -> Option<Fault<TableRule>> {
         match table {
-            Table::Classes => first_row(self.0.classes.as_slice(), self, TableRule::Method, table),
-            _ => None,
+            Table::Classes => first_row(&self.0.classes, self, TableRule::Method, table),
+            Table::Header
+            | Table::Types
+            | Table::Lists
+            | Table::Constructors
+            | Table::Functions
+            | Table::Interfaces
+            | Table::Signatures
+            | Table::Methods
+            | Table::Nodes
+            | Table::Branches
+            | Table::Statements => None,
         }
     }
 }

@@ -1,17 +1,19 @@
 //! Rule 5, Shape: whether types, names, defaults, classes and methods have their shape.
-ghost use Rattle.std.specs.Prelude.{◌≡◌, ℕ, ◌≤◌, min, Bool, true, false, IfOk, if◌then◌else◌, None, ◌==◌};
-ghost use Rattle.shape.specs.Earliest.{holds_row, earliest_from};
+ghost use Rattle.std.specs.Prelude.{◌≡◌, ℕ, Bool, true, false, take, IfOk, None, ◌==◌, nat_eq};
+ghost use Rattle.std.specs.List.{list_any};
+ghost use Rattle.shape.specs.Earliest.{lowered, earliest_from};
 ghost use Rattle.tables.specs.Layout.{content};
-ghost use Rattle.shape.specs.Shape.{type_shape, constructor_shape, signature_shape, not_interface, not_main, not_first, class_shape, not_plain, outside_method_shape, inside_method_shape, repeats_name, method_shape_in, method_shape_of, method_shape, class_fault, faults_in, shape_broken};
-ghost use Rattle.rules.specs.Faults.{rule_fault, places};
-ghost use Rattle.rules.specs.Words.{some, part};
+ghost use Rattle.shape.specs.Shape.{type_shape, constructor_shape, signature_shape, not_interface, not_main, not_first, class_shape, not_plain, outside_method_shape, inside_method_shape, repeats_name, method_shape_in, method_shape_of, method_shape, shape_broken};
+ghost use Rattle.rules.specs.Faults.{fault_in, rule_fault, places};
+ghost use Rattle.placement.specs.Holders.{method_classes};
+ghost use Rattle.rules.specs.Words.{at, part, between};
 ghost use Rattle.tables.specs.declared.place.TableRule.TheVariants.{Shape};
 
 use placement::holder;
 use placement::holders::method_classes;
 use rules::faults::{RowTest, Tablewise, first_row, first_table};
-use rules::search::{Test, any, part, test_at};
-use rules::types::{IsInterface, IsPlain, IsUnit, SameType};
+use rules::search::part;
+use rules::types::{is_interface, is_plain, is_unit, same_type};
 use std::alloc::{AllocError, Global};
 use tables::place::{Fault, Place, Table, TableRule};
 use tables::rows::{
@@ -24,140 +26,112 @@ use tables::tables::Tables;
 struct ShapeRule<'a> {
     t: &'a Tables,
     classes: &'a [Option<Place>],
+    ghost classes_held: { classes.now ≡ method_classes (content t.now) },
 }
 
 impl RowTest<TypeRow> for ShapeRule<'_> {
     ghost broken = { λ s r x. type_shape (content s.t.now) r x };
 
     fn breaks(&self, row: usize, x: TypeRow) -> bool {
-        any(part(self.t.types.as_slice(), 0, row), &SameType(x))
+        part(&self.t.types, 0, row).iter().any(|y| same_type(x, *y))
     }
 }
 
-/// Constructors of the data of this number.
-#[derive(Clone, Copy)]
-struct OfData(u16);
-
-impl Test<ConstructorRow> for OfData {
-    ghost holds = { λ s y. (y.number == s.0) };
-
-    fn holds(&self, y: ConstructorRow) -> bool {
-        y.number == self.0
-    }
+/// Whether a constructor before this row is of the data of this number.
+fn has_earlier(t: &Tables, row: usize, number: u16) -> bool
+    ensures earlier { result ≡ list_any (λ y. nat_eq y.number number) (take row (content t.now).constructors) }
+{
+    part(&t.constructors, 0, row)
+        .iter()
+        .any(|y| y.number == number)
 }
 
 impl RowTest<ConstructorRow> for ShapeRule<'_> {
     ghost broken = { λ s r x. constructor_shape (content s.t.now) r x };
 
     fn breaks(&self, row: usize, x: ConstructorRow) -> bool {
-        x.count > 0
-            && !any(
-                part(self.t.constructors.as_slice(), 0, row),
-                &OfData(x.number),
-            )
-    }
-}
-
-/// Signatures and methods of this name.
-#[derive(Clone, Copy)]
-struct Named(u16);
-
-impl Test<SignatureRow> for Named {
-    ghost holds = { λ s y. (y.name == s.0) };
-
-    fn holds(&self, y: SignatureRow) -> bool {
-        y.name == self.0
-    }
-}
-
-impl Test<MethodRow> for Named {
-    ghost holds = { λ s y. (y.name == s.0) };
-
-    fn holds(&self, y: MethodRow) -> bool {
-        y.name == self.0
+        x.count > 0 && !has_earlier(self.t, row, x.number)
     }
 }
 
 /// The lower of this row and the interface's first, where the interface holds the row.
 fn lowered(low: usize, row: usize, interface: InterfaceRow) -> usize
-    ensures lowered { result ≡ (if holds_row row interface then min low interface.first else low) }
-    ensures below { result ≤ low }
+    ensures lowered { result ≡ lowered row low interface }
 {
     let first = interface.first as usize;
     if first <= row && row < first + interface.count as usize {
-        return low.min(first);
+        low.min(first)
+    } else {
+        low
     }
-    low
 }
 
 /// The earliest signature that an interface holds together with this one, or this one.
 fn earliest(interfaces: &[InterfaceRow], row: usize) -> usize
     ensures earliest { result ≡ earliest_from row row interfaces.now }
-    ensures below { result ≤ row }
 {
-    let mut low = row;
-    for interface in interfaces {
-        low = lowered(low, row, *interface);
-    }
-    low
+    interfaces
+        .iter()
+        .fold(row, |low, interface| lowered(low, row, *interface))
+}
+
+/// Whether a signature before this row, from the first of these on, has this name.
+fn named_between(t: &Tables, first: usize, row: usize, name: u16) -> bool
+    ensures named { result ≡ list_any (λ y. nat_eq y.name name) (between first row (content t.now).signatures) }
+{
+    part(&t.signatures, first, row.saturating_sub(first))
+        .iter()
+        .any(|y| y.name == name)
 }
 
 impl RowTest<SignatureRow> for ShapeRule<'_> {
     ghost broken = { λ s r x. signature_shape (content s.t.now) r x };
 
     fn breaks(&self, row: usize, x: SignatureRow) -> bool {
-        let first = earliest(self.t.interfaces.as_slice(), row);
-        any(
-            part(self.t.signatures.as_slice(), first, row - first),
-            &Named(x.name),
-        )
+        let first = earliest(&self.t.interfaces, row);
+        named_between(self.t, first, row, x.name)
     }
 }
 
-/// List entries that are no interface.
-#[derive(Clone, Copy)]
-struct NotInterface<'a>(&'a Tables);
-
-impl Test<ListRow> for NotInterface<'_> {
-    ghost holds = { λ s x. not_interface (content s.0.now) x };
-
-    fn holds(&self, x: ListRow) -> bool {
-        !test_at(self.0.types.as_slice(), x.entry as usize, &IsInterface)
-    }
+fn not_interface(t: &Tables, x: ListRow) -> bool
+    ensures other { result ≡ not_interface (content t.now) x }
+{
+    !t.types
+        .get(x.entry as usize)
+        .is_some_and(|y| is_interface(*y))
 }
 
-/// Methods that class 0 may not have as its first.
-#[derive(Clone, Copy)]
-struct NotMain<'a>(&'a Tables);
+/// Whether class 0 may not have the method as its first.
+fn not_main(t: &Tables, x: MethodRow) -> bool
+    ensures main { result ≡ not_main (content t.now) x }
+{
+    x.parameters > 0 || !t.types.get(x.result as usize).is_some_and(|y| is_unit(*y))
+}
 
-impl Test<MethodRow> for NotMain<'_> {
-    ghost holds = { λ s x. not_main (content s.0.now) x };
-
-    fn holds(&self, x: MethodRow) -> bool {
-        x.parameters > 0 || !test_at(self.0.types.as_slice(), x.result as usize, &IsUnit)
-    }
+/// Whether the first method of the class may not be the first of class 0.
+fn begins_other(t: &Tables, x: ClassRow) -> bool
+    ensures other { result ≡ at (content t.now).methods x.methods_first (not_main (content t.now)) }
+{
+    t.methods
+        .get(x.methods_first as usize)
+        .is_some_and(|y| not_main(t, *y))
 }
 
 fn not_first(t: &Tables, x: ClassRow) -> bool
     ensures first { result ≡ not_first (content t.now) x }
 {
-    x.outside == 1
-        || x.fields > 0
-        || x.methods_count == 0
-        || test_at(t.methods.as_slice(), x.methods_first as usize, &NotMain(t))
+    x.outside == 1 || x.fields > 0 || x.methods_count == 0 || begins_other(t, x)
 }
 
 fn lists_other(t: &Tables, x: ClassRow) -> bool
-    ensures other { result ≡ some (not_interface (content t.now)) (part x.interfaces_first x.interfaces_count (content t.now).lists) }
+    ensures other { result ≡ list_any (not_interface (content t.now)) (part x.interfaces_first x.interfaces_count (content t.now).lists) }
 {
-    any(
-        part(
-            t.lists.as_slice(),
-            x.interfaces_first as usize,
-            x.interfaces_count as usize,
-        ),
-        &NotInterface(t),
-    )
+    let listed = part(
+        &t.lists,
+        x.interfaces_first as usize,
+        x.interfaces_count as usize,
+    );
+    listed.iter().any(|y| not_interface(t, *y))
 }
 
 impl RowTest<ClassRow> for ShapeRule<'_> {
@@ -168,31 +142,26 @@ impl RowTest<ClassRow> for ShapeRule<'_> {
     }
 }
 
-/// List entries that are none of Unit, Bool and Int.
-#[derive(Clone, Copy)]
-struct NotPlain<'a>(&'a Tables);
+fn not_plain(t: &Tables, x: ListRow) -> bool
+    ensures other { result ≡ not_plain (content t.now) x }
+{
+    !t.types.get(x.entry as usize).is_some_and(|y| is_plain(*y))
+}
 
-impl Test<ListRow> for NotPlain<'_> {
-    ghost holds = { λ s x. not_plain (content s.0.now) x };
-
-    fn holds(&self, x: ListRow) -> bool {
-        !test_at(self.0.types.as_slice(), x.entry as usize, &IsPlain)
-    }
+fn takes_other(t: &Tables, x: MethodRow) -> bool
+    ensures other { result ≡ list_any (not_plain (content t.now)) (part x.slots_first x.parameters (content t.now).lists) }
+{
+    part(&t.lists, x.slots_first as usize, x.parameters as usize)
+        .iter()
+        .any(|y| not_plain(t, *y))
 }
 
 fn outside_method_shape(t: &Tables, x: MethodRow) -> bool
     ensures shape { result ≡ outside_method_shape (content t.now) x }
 {
     x.statements_count > 0
-        || !test_at(t.types.as_slice(), x.result as usize, &IsPlain)
-        || any(
-            part(
-                t.lists.as_slice(),
-                x.slots_first as usize,
-                x.parameters as usize,
-            ),
-            &NotPlain(t),
-        )
+        || !t.types.get(x.result as usize).is_some_and(|y| is_plain(*y))
+        || takes_other(t, x)
 }
 
 fn inside_method_shape(x: MethodRow) -> bool
@@ -201,85 +170,70 @@ fn inside_method_shape(x: MethodRow) -> bool
     x.statements_count == 0
 }
 
-/// Classes in which this method has no shape.
-#[derive(Clone, Copy)]
-struct Misshapen<'a> {
-    t: &'a Tables,
-    row: usize,
-    method: MethodRow,
-}
-
 fn repeats_name(t: &Tables, row: usize, x: MethodRow, class: ClassRow) -> bool
     ensures repeats { result ≡ repeats_name (content t.now) row x class }
 {
     let first = class.methods_first as usize;
-    any(
-        part(t.methods.as_slice(), first, row.saturating_sub(first)),
-        &Named(x.name),
-    )
+    part(&t.methods, first, row.saturating_sub(first))
+        .iter()
+        .any(|y| y.name == x.name)
 }
 
-impl Test<ClassRow> for Misshapen<'_> {
-    ghost holds = { λ s c. method_shape_in (content s.t.now) s.row s.method c };
-
-    fn holds(&self, class: ClassRow) -> bool {
-        if repeats_name(self.t, self.row, self.method, class) {
-            return true;
+fn method_shape_in(t: &Tables, row: usize, x: MethodRow, class: ClassRow) -> bool
+    ensures shape { result ≡ method_shape_in (content t.now) row x class }
+{
+    repeats_name(t, row, x, class)
+        || if class.outside == 1 {
+            outside_method_shape(t, x)
+        } else {
+            inside_method_shape(x)
         }
-        if class.outside == 1 {
-            return outside_method_shape(self.t, self.method);
-        }
-        inside_method_shape(self.method)
-    }
 }
 
-fn method_shape_of(t: &Tables, row: usize, method: MethodRow, class: Option<Place>) -> bool
-    ensures shape { result ≡ method_shape_of (content t.now) row method class }
+fn method_shape_of(t: &Tables, row: usize, x: MethodRow, class: Option<Place>) -> bool
+    ensures shape { result ≡ method_shape_of (content t.now) row x class }
 {
     match class {
-        None => inside_method_shape(method),
-        Some(place) => test_at(
-            t.classes.as_slice(),
-            place.row,
-            &Misshapen { t, row, method },
-        ),
+        None => inside_method_shape(x),
+        Some(place) => t
+            .classes
+            .get(place.row)
+            .is_some_and(|class| method_shape_in(t, row, x, *class)),
     }
 }
 
 impl RowTest<MethodRow> for ShapeRule<'_> {
-    ghost broken = { λ s r x. method_shape (content s.t.now) s.classes.now r x };
+    ghost broken = { λ s r x. method_shape (content s.t.now) (method_classes (content s.t.now)) r x };
 
     fn breaks(&self, row: usize, x: MethodRow) -> bool {
         method_shape_of(self.t, row, x, holder(self.classes, row))
     }
 }
 
-fn class_fault(judge: &ShapeRule) -> Option<Fault<TableRule>>
-    ensures first { result ≡ class_fault (content judge.now.t.now) (content judge.now.t.now).classes }
-{
-    let (rule, table) = (TableRule::Shape, Table::Classes);
-    if judge.t.classes.is_empty() {
-        return Some(Fault {
-            rule,
-            table,
-            row: 0,
-        });
-    }
-    first_row(judge.t.classes.as_slice(), judge, rule, table)
-}
-
 impl Tablewise for ShapeRule<'_> {
-    ghost faults = { λ s table. faults_in (content s.t.now) s.classes.now table };
+    ghost faults = { λ s table. fault_in Shape (shape_broken (content s.t.now)) (places (content s.t.now)) table };
 
     fn in_table(&self, table: Table) -> Option<Fault<TableRule>> {
         let rule = TableRule::Shape;
         match table {
-            Table::Types => first_row(self.t.types.as_slice(), self, rule, table),
-            Table::Constructors => first_row(self.t.constructors.as_slice(), self, rule, table),
-            Table::Signatures => first_row(self.t.signatures.as_slice(), self, rule, table),
-            Table::Classes => class_fault(self),
-            Table::Methods => first_row(self.t.methods.as_slice(), self, rule, table),
-            _ => None,
+            Table::Types => first_row(&self.t.types, self, rule, table),
+            Table::Constructors => first_row(&self.t.constructors, self, rule, table),
+            Table::Signatures => first_row(&self.t.signatures, self, rule, table),
+            // class 0 has to be there
+            Table::Classes if self.t.classes.is_empty() => Some(Fault {
+                rule,
+                table,
+                row: 0,
+            }),
+            Table::Classes => first_row(&self.t.classes, self, rule, table),
+            Table::Methods => first_row(&self.t.methods, self, rule, table),
+            Table::Header
+            | Table::Lists
+            | Table::Functions
+            | Table::Interfaces
+            | Table::Nodes
+            | Table::Branches
+            | Table::Statements => None,
         }
     }
 }
@@ -291,6 +245,6 @@ pub fn first_fault(heap: Global, t: &Tables) -> Result<Option<Fault<TableRule>>,
     let classes = method_classes(heap, t)?;
     Ok(first_table(&ShapeRule {
         t,
-        classes: classes.as_slice(),
+        classes: &classes,
     }))
 }

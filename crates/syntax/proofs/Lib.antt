@@ -1,2 +1,1 @@
 pub mod Descents
-pub mod Rowwise

@@ -1,5 +1,6 @@
 -- What a row of the nodes says.
 use Rattle.std.specs.Prelude.{ℕ, List, [], ◌∷◌, take, Some, None, Option}
+use Rattle.std.specs.List.{slice_get}
 use Rattle.tables.specs.declared.kinds.NodeKind.{NodeKind}
 use Rattle.tables.specs.declared.kinds.NodeKind.TheVariants as kind
 use Rattle.tables.specs.declared.rows.NodeRow.{NodeRow}
@@ -8,7 +9,7 @@ use Rattle.tables.specs.Layout.{Content}
 use Rattle.syntax.specs.declared.nodes.Node.{Node}
 use Rattle.syntax.specs.declared.nodes.Node.TheVariants as node
 use Rattle.syntax.specs.declared.nodes.Parts.{Parts}
-use Rattle.syntax.specs.Rows.{row_at, given}
+use Rattle.syntax.specs.Rows.{given}
 
 -- the rows of the parts: the first `count` of the four
 abbrev pub parts : Parts → List ℕ
@@ -47,4 +48,4 @@ node_of x = node_as x (node_kind x.kind)
 
 -- the node in a row
 abbrev pub node_at : Content → ℕ → Option Node
-node_at m row = given (row_at m.nodes row) node_of
+node_at m row = given (slice_get m.nodes row) node_of

@@ -1,5 +1,6 @@
 -- Types, and what a row of the types says.
 use Rattle.std.specs.Prelude.{ℕ, Bool, true, false, ◌&&◌, Some, None, Option, ◌==◌}
+use Rattle.std.specs.List.{slice_get}
 use Rattle.tables.specs.declared.kinds.TypeKind.{TypeKind}
 use Rattle.tables.specs.declared.kinds.TypeKind.TheVariants as kind
 use Rattle.tables.specs.declared.rows.TypeRow.{TypeRow}
@@ -7,7 +8,7 @@ use Rattle.tables.specs.Kinds.{type_kind}
 use Rattle.tables.specs.Layout.{Content}
 use Rattle.syntax.specs.declared.types.ValueType.{ValueType}
 use Rattle.syntax.specs.declared.types.ValueType.TheVariants as type
-use Rattle.syntax.specs.Rows.{row_at, given}
+use Rattle.syntax.specs.Rows.{given}
 
 -- A data is named by its number, an interface by its row, a future by the row of the type of its value.
 abbrev pub type_as : ℕ → Option TypeKind → Option ValueType
@@ -25,7 +26,7 @@ type_of x = type_as x.reference (type_kind x.kind)
 
 -- the type in a row
 abbrev pub type_at : Content → ℕ → Option ValueType
-type_at m row = given (row_at m.types row) type_of
+type_at m row = given (slice_get m.types row) type_of
 
 -- the number of a type's kind in the format
 abbrev pub kind_number : ValueType → ℕ

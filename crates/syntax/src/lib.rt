@@ -2,6 +2,5 @@
 #![tactic(auto)]
 
 pub mod nodes;
-pub mod rows;
 pub mod statements;
 pub mod types;

@@ -1,16 +1,18 @@
 //! Nodes of expressions and patterns.
 ghost use Rattle.std.specs.Prelude.{◌≡◌};
+ghost use Rattle.tables.specs.Kinds.{known};
 ghost use Rattle.tables.specs.Layout.{content};
 ghost use Rattle.syntax.specs.Nodes.{parts, node_of, node_at};
 
-use crate::rows::row_at;
 use rules::search::part;
-use tables::kinds::NodeKind;
+use tables::kinds::{NodeKind, UnknownKind};
 use tables::rows::NodeRow;
 use tables::tables::Tables;
 
 /// The children of a node, or the parts of a statement: the first `count` of four.
-#[derive(Clone, Copy)]
+// An array and a count, not a `Vec`: the parts are copied on the stack with their node, and a list on the heap would cost an
+// allocation for each node that is read.
+#[derive(Clone, Copy, PartialEq, Eq, Debug)]
 pub struct Parts {
     pub rows: [u16; 4],
     pub count: u16,
@@ -25,7 +27,7 @@ impl Parts {
 }
 
 /// What a node is, with the rows of its children and what its kind names.
-#[derive(Clone, Copy)]
+#[derive(Clone, Copy, PartialEq, Eq, Debug)]
 pub enum Node {
     Unit,
     False,
@@ -53,48 +55,54 @@ pub enum Node {
     Variable(u16),
 }
 
-impl Node {
-    /// What the row says, if its kind is known.
-    pub fn of(row: NodeRow) -> Option<Node>
-        ensures says { result ≡ node_of row }
-    {
+/// What the row says, if its kind is known.
+impl TryFrom<NodeRow> for Node {
+    type Error = UnknownKind;
+
+    ghost try_from_gives = { λ row r. r ≡ known row.kind (node_of row) };
+
+    fn try_from(row: NodeRow) -> Result<Node, UnknownKind> {
         let (a, b) = (row.p1, row.p2);
         let children = Parts {
             rows: [row.p1, row.p2, row.p3, row.p4],
             count: row.count,
         };
-        let node = match NodeKind::of(row.kind) {
-            None => return None,
-            Some(NodeKind::Unit) => Node::Unit,
-            Some(NodeKind::False) => Node::False,
-            Some(NodeKind::True) => Node::True,
-            Some(NodeKind::Int) => Node::Int(row.reference),
-            Some(NodeKind::Null) => Node::Null(row.reference),
-            Some(NodeKind::Slot) => Node::Slot(row.reference),
-            Some(NodeKind::This) => Node::This(row.reference),
-            Some(NodeKind::Constructor) => Node::Constructor(row.reference, children),
-            Some(NodeKind::Function) => Node::Function(row.reference, children),
-            Some(NodeKind::Case) => Node::Case(a, row.reference),
-            Some(NodeKind::Add) => Node::Add(a, b),
-            Some(NodeKind::Subtract) => Node::Subtract(a, b),
-            Some(NodeKind::Divide) => Node::Divide(a, b),
-            Some(NodeKind::Less) => Node::Less(a, b),
-            Some(NodeKind::Equal) => Node::Equal(a, b),
-            Some(NodeKind::Not) => Node::Not(a),
-            Some(NodeKind::And) => Node::And(a, b),
-            Some(NodeKind::Wildcard) => Node::Wildcard,
-            Some(NodeKind::Variable) => Node::Variable(row.reference),
+        let node = match NodeKind::try_from(row.kind)? {
+            NodeKind::Unit => Node::Unit,
+            NodeKind::False => Node::False,
+            NodeKind::True => Node::True,
+            NodeKind::Int => Node::Int(row.reference),
+            NodeKind::Null => Node::Null(row.reference),
+            NodeKind::Slot => Node::Slot(row.reference),
+            NodeKind::This => Node::This(row.reference),
+            NodeKind::Constructor => Node::Constructor(row.reference, children),
+            NodeKind::Function => Node::Function(row.reference, children),
+            NodeKind::Case => Node::Case(a, row.reference),
+            NodeKind::Add => Node::Add(a, b),
+            NodeKind::Subtract => Node::Subtract(a, b),
+            NodeKind::Divide => Node::Divide(a, b),
+            NodeKind::Less => Node::Less(a, b),
+            NodeKind::Equal => Node::Equal(a, b),
+            NodeKind::Not => Node::Not(a),
+            NodeKind::And => Node::And(a, b),
+            NodeKind::Wildcard => Node::Wildcard,
+            NodeKind::Variable => Node::Variable(row.reference),
         };
-        Some(node)
+        Ok(node)
     }
+}
+
+/// What the row says, if its kind is known.
+// A function of its own: inside a closure of `node_at` the proof did not close.
+fn node_of(row: NodeRow) -> Option<Node>
+    ensures says { result ≡ node_of row }
+{
+    Node::try_from(row).ok()
 }
 
 /// The node in this row, if there is one.
 pub fn node_at(t: &Tables, row: u16) -> Option<Node>
     ensures node { result ≡ node_at (content t.now) row }
 {
-    match row_at(t.nodes.as_slice(), row as usize) {
-        None => None,
-        Some(row) => Node::of(row),
-    }
+    node_of(t.nodes.get(row as usize).copied()?)
 }

@@ -1,13 +1,14 @@
 //! Statements.
 ghost use Rattle.std.specs.Prelude.{◌≡◌};
+ghost use Rattle.tables.specs.Kinds.{known};
 ghost use Rattle.syntax.specs.Statements.{one_less, parts_of, new_of, call_of, statement_of};
 
 use crate::nodes::Parts;
-use tables::kinds::StatementKind;
+use tables::kinds::{StatementKind, UnknownKind};
 use tables::rows::StatementRow;
 
 /// The group of a new object.
-#[derive(Clone, Copy)]
+#[derive(Clone, Copy, PartialEq, Eq, Debug)]
 pub enum Group {
     /// That of its maker.
     Own,
@@ -15,14 +16,14 @@ pub enum Group {
 }
 
 /// How a call is made.
-#[derive(Clone, Copy)]
+#[derive(Clone, Copy, PartialEq, Eq, Debug)]
 pub enum Manner {
     Asynchronous,
     Synchronous,
 }
 
 /// A new object: its group, its class, and the values of the class's parameters.
-#[derive(Clone, Copy)]
+#[derive(Clone, Copy, PartialEq, Eq, Debug)]
 pub struct Creation {
     pub group: Group,
     pub class: u16,
@@ -30,7 +31,7 @@ pub struct Creation {
 }
 
 /// A call: the object called, which is a node or, where there is none, the object itself; the method's name; its arguments.
-#[derive(Clone, Copy)]
+#[derive(Clone, Copy, PartialEq, Eq, Debug)]
 pub struct Call {
     pub manner: Manner,
     pub object: Option<u16>,
@@ -40,7 +41,7 @@ pub struct Call {
 
 /// What a statement does, with the nodes that it evaluates, the slot that takes its result, if any, and the statement that it
 /// goes on to.
-#[derive(Clone, Copy)]
+#[derive(Clone, Copy, PartialEq, Eq, Debug)]
 pub enum Statement {
     Skip {
         next: u16,
@@ -88,10 +89,7 @@ pub enum Statement {
 fn one_less(number: u16) -> Option<u16>
     ensures less { result ≡ one_less number }
 {
-    if number == 0 {
-        return None;
-    }
-    Some(number - 1)
+    number.checked_sub(1)
 }
 
 fn parts_of(row: StatementRow) -> Parts
@@ -132,41 +130,42 @@ fn call_of(row: StatementRow, manner: Manner) -> Statement
     }
 }
 
-impl Statement {
-    /// What the row says, if its kind is known.
-    pub fn of(row: StatementRow) -> Option<Statement>
-        ensures says { result ≡ statement_of row }
-    {
+/// What the row says, if its kind is known.
+impl TryFrom<StatementRow> for Statement {
+    type Error = UnknownKind;
+
+    ghost try_from_gives = { λ row r. r ≡ known row.kind (statement_of row) };
+
+    fn try_from(row: StatementRow) -> Result<Statement, UnknownKind> {
         let (target, next) = (one_less(row.target), row.next);
-        let statement = match StatementKind::of(row.kind) {
-            None => return None,
-            Some(StatementKind::Skip) => Statement::Skip { next },
-            Some(StatementKind::Assign) => Statement::Assign {
+        let statement = match StatementKind::try_from(row.kind)? {
+            StatementKind::Skip => Statement::Skip { next },
+            StatementKind::Assign => Statement::Assign {
                 target,
                 value: row.p1,
                 next,
             },
-            Some(StatementKind::Branch) => Statement::Branch {
+            StatementKind::Branch => Statement::Branch {
                 test: row.p1,
                 next,
                 other: row.other,
             },
-            Some(StatementKind::Suspend) => Statement::Suspend { next },
-            Some(StatementKind::Await) => Statement::Await {
+            StatementKind::Suspend => Statement::Suspend { next },
+            StatementKind::Await => Statement::Await {
                 slots: parts_of(row),
                 next,
             },
-            Some(StatementKind::Get) => Statement::Get {
+            StatementKind::Get => Statement::Get {
                 target,
                 future: row.p1,
                 next,
             },
-            Some(StatementKind::New) => new_of(row, Group::Own),
-            Some(StatementKind::NewGroup) => new_of(row, Group::New),
-            Some(StatementKind::AsyncCall) => call_of(row, Manner::Asynchronous),
-            Some(StatementKind::SyncCall) => call_of(row, Manner::Synchronous),
-            Some(StatementKind::Return) => Statement::Return { value: row.p1 },
+            StatementKind::New => new_of(row, Group::Own),
+            StatementKind::NewGroup => new_of(row, Group::New),
+            StatementKind::AsyncCall => call_of(row, Manner::Asynchronous),
+            StatementKind::SyncCall => call_of(row, Manner::Synchronous),
+            StatementKind::Return => Statement::Return { value: row.p1 },
         };
-        Some(statement)
+        Ok(statement)
     }
 }

@@ -2,17 +2,17 @@
 ghost use Rattle.std.specs.Prelude.{◌≡◌, Bool};
 ghost use Rattle.tables.specs.Layout.{content};
 ghost use Rattle.syntax.specs.declared.types.ValueType.TheVariants.{Unit};
-ghost use Rattle.syntax.specs.Types.{type_of, same, agree, nullable, type_at};
+ghost use Rattle.tables.specs.Kinds.{known};
+ghost use Rattle.syntax.specs.Types.{type_of, agree, nullable, type_at};
 
-use crate::rows::row_at;
 use mapping::mapping::Blank;
-use tables::kinds::TypeKind;
+use tables::kinds::{TypeKind, UnknownKind};
 use tables::rows::TypeRow;
 use tables::tables::Tables;
 
 /// The type of an expression, a slot or a field: a data by its number, an interface by its row, and a future by the row of
 /// the type of its value.
-#[derive(Clone, Copy)]
+#[derive(Clone, Copy, PartialEq, Eq, Debug)]
 pub enum ValueType {
     Unit,
     Bool,
@@ -30,45 +30,31 @@ impl Blank for ValueType {
     }
 }
 
+/// The type that the row says, if its kind is known.
+impl TryFrom<TypeRow> for ValueType {
+    type Error = UnknownKind;
+
+    ghost try_from_gives = { λ row r. r ≡ known row.kind (type_of row) };
+
+    fn try_from(row: TypeRow) -> Result<ValueType, UnknownKind> {
+        let of = match TypeKind::try_from(row.kind)? {
+            TypeKind::Unit => ValueType::Unit,
+            TypeKind::Bool => ValueType::Bool,
+            TypeKind::Int => ValueType::Int,
+            TypeKind::Data => ValueType::Data(row.reference),
+            TypeKind::Interface => ValueType::Interface(row.reference),
+            TypeKind::Future => ValueType::Future(row.reference),
+        };
+        Ok(of)
+    }
+}
+
 impl ValueType {
-    /// The type that the row says, if its kind is known.
-    pub fn of(row: TypeRow) -> Option<ValueType>
-        ensures says { result ≡ type_of row }
-    {
-        match TypeKind::of(row.kind) {
-            None => None,
-            Some(TypeKind::Unit) => Some(ValueType::Unit),
-            Some(TypeKind::Bool) => Some(ValueType::Bool),
-            Some(TypeKind::Int) => Some(ValueType::Int),
-            Some(TypeKind::Data) => Some(ValueType::Data(row.reference)),
-            Some(TypeKind::Interface) => Some(ValueType::Interface(row.reference)),
-            Some(TypeKind::Future) => Some(ValueType::Future(row.reference)),
-        }
-    }
-
-    /// Whether the two are the same type.
-    pub fn same(self, other: ValueType) -> bool
-        ensures same { result ≡ same self other }
-    {
-        match (self, other) {
-            (ValueType::Unit, ValueType::Unit) => true,
-            (ValueType::Bool, ValueType::Bool) => true,
-            (ValueType::Int, ValueType::Int) => true,
-            (ValueType::Data(a), ValueType::Data(b)) => a == b,
-            (ValueType::Interface(a), ValueType::Interface(b)) => a == b,
-            (ValueType::Future(a), ValueType::Future(b)) => a == b,
-            _ => false,
-        }
-    }
-
     /// Whether null is a value of the type.
     pub fn nullable(self) -> bool
         ensures nullable { result ≡ nullable self }
     {
-        match self {
-            ValueType::Interface(_) | ValueType::Future(_) => true,
-            _ => false,
-        }
+        matches!(self, ValueType::Interface(_) | ValueType::Future(_))
     }
 }
 
@@ -76,18 +62,13 @@ impl ValueType {
 pub fn agree(a: Option<ValueType>, b: Option<ValueType>) -> bool
     ensures agree { result ≡ agree a b }
 {
-    match (a, b) {
-        (Some(a), Some(b)) => a.same(b),
-        _ => false,
-    }
+    a.is_some() && a == b
 }
 
 /// The type in this row, if there is one.
 pub fn type_at(t: &Tables, row: u16) -> Option<ValueType>
     ensures says { result ≡ type_at (content t.now) row }
 {
-    match row_at(t.types.as_slice(), row as usize) {
-        None => None,
-        Some(row) => ValueType::of(row),
-    }
+    let row = t.types.get(row as usize).copied()?;
+    ValueType::try_from(row).ok()
 }

@@ -4,7 +4,7 @@ use Rattle.std.proofs.lemmas.Bool.{cases_lt}
 use Rattle.tables.specs.Least.{or_else, first_in, first_below}
 
 pub some_none : {A : Type 0} (x : A) → Some x ≡ None → ⊥
-some_none x e = let z : ◌≡◌ {A = ℕ} 0 1 = cc in omega arith
+some_none x e = cc
 
 or_else_none : {A : Type 0} (a b : Option A) → or_else a b ≡ None → (a ≡ None) × (b ≡ None)
 or_else_none None b e = (refl, e)
@@ -13,6 +13,14 @@ or_else_none (Some x) b e = absurd (some_none x e)
 or_else_some : {A : Type 0} (a b : Option A) (x : A) → or_else a b ≡ Some x → (a ≡ Some x) ⊎ ((a ≡ None) × (b ≡ Some x))
 or_else_some None b x e = inr (refl, e)
 or_else_some (Some y) b x e = inl e
+
+pub none_after : {A : Type 0} (o : Option A) → or_else o None ≡ o
+none_after None = refl
+none_after (Some x) = refl
+
+pub or_else_assoc : {A : Type 0} (a b c : Option A) → or_else (or_else a b) c ≡ or_else a (or_else b c)
+or_else_assoc None b c = refl
+or_else_assoc (Some x) b c = refl
 
 -- membership, and a list whose keys rise from `n` on
 abbrev pub In : {A : Type 0} → A → List A → Type 0
@@ -49,7 +57,7 @@ module _ {A B : Type 0} (f : A → Option B) where
 
   pub some_in : (key : A → ℕ) (n : ℕ) (xs : List A) → Rising key n xs → (y : B) → first_in f xs ≡ Some y →
       (x : A) × In x xs × (f x ≡ Some y) × ((z : A) → In z xs → key z < key x → f z ≡ None)
-  some_in key n [] rising y h = absurd (let z : ◌≡◌ {A = ℕ} 0 1 = cc in omega arith)
+  some_in key n [] rising y h = cc
   some_in key n (z ∷ zs) rising y h =
       elim (or_else_some (f z) (first_in f zs) y h) [
         | inl e ↦ (z, inl refl, e, λ w at lt. absurd (let least = rising_above key (key z) (z ∷ zs) (omega arith, rising.1) w at in omega arith))
@@ -81,7 +89,7 @@ module _ {B : Type 0} (f : ℕ → Option B) where
       elim (cases_lt k n) [ inl less ↦ none_below n p.0 k less | inr more ↦ let e : k ≡ n = omega arith in rw e p.1 ]
 
   pub some_below : (n : ℕ) (x : B) → first_below f n ≡ Some x → (k : ℕ) × (k < n) × (f k ≡ Some x) × (first_below f k ≡ None)
-  some_below zero x h = absurd (let z : ◌≡◌ {A = ℕ} 0 1 = cc in omega arith)
+  some_below zero x h = cc
   some_below (suc n) x h =
       elim (or_else_some (first_below f n) (f n) x h) [
         | inl e ↦ (let p = some_below n x e in (p.0, omega arith, p.2, p.3))

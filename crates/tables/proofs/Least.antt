@@ -26,7 +26,7 @@ tables_rising = (lit≤ tt, (lit≤ tt, (lit≤ tt, (lit≤ tt, (lit≤ tt, (lit
 
 told : {A : Type 0} (b : Bool) (x y : A) → cond b (Some x) None ≡ Some y → (b ≡ true) × (x ≡ y)
 told true x y e = (refl, cc)
-told false x y e = absurd (let z : ◌≡◌ {A = ℕ} 0 1 = cc in omega arith)
+told false x y e = cc
 
 quiet : {A : Type 0} (b : Bool) (x : A) → (b ≡ true → ⊥) → cond b (Some x) None ≡ None
 quiet true x no_hit = absurd (no_hit refl)

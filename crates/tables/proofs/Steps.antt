@@ -1,13 +1,6 @@
 -- One step of each of the two readers, on lists.
-use Rattle.std.proofs.Common.{◌≡◌, ℕ, zero, suc, ◌+◌, ◌-◌, ◌*◌, ◌<◌, ◌≤◌, List, [], ◌∷◌, ◌++◌, length, get_or, take, drop, sym, ap, ◌∙◌, append_assoc, suc-mul, arith}
-use Rattle.std.proofs.lemmas.List.{take_rest}
+use Rattle.std.proofs.Common.{◌≡◌, ℕ, zero, suc, ◌+◌, ◌-◌, ◌*◌, ◌<◌, ◌≤◌, List, [], ◌∷◌, ◌++◌, length, take, drop, sym, ap, ◌∙◌, append_assoc, suc-mul, arith}
 use Rattle.tables.specs.Numbers.{numbers_of, rows_of}
-
-pub numbers_more : (xs : List ℕ) → 2 ≤ length xs →
-    numbers_of xs ≡ (get_or xs 0 0 * 256 + get_or xs 1 0) ∷ numbers_of (take (length xs - 2) (drop 2 xs))
-numbers_more [] h = absurd (omega arith)
-numbers_more (a ∷ []) h = absurd (omega arith)
-numbers_more (a ∷ b ∷ xs) h = rw (take_rest (a ∷ b ∷ xs) 2)
 
 -- what is read, and what is still to be read, after one more
 pub moved : {A : Type 0} (out more : List A) (x : A) (rest all next : List A) →

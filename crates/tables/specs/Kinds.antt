@@ -1,5 +1,6 @@
 -- The kinds of types, nodes and statements by their numbers.
-use Rattle.std.specs.Prelude.{ℕ, cond, List, [], ◌∷◌, Some, None, Option, ◌==◌}
+use Rattle.std.specs.Prelude.{ℕ, cond, List, [], ◌∷◌, Some, None, Ok, Err, Option, Result, ◌==◌}
+use Rattle.tables.specs.declared.kinds.UnknownKind.{UnknownKind}
 use Rattle.tables.specs.declared.kinds.TypeKind.{TypeKind}
 use Rattle.tables.specs.declared.kinds.TypeKind.TheVariants as type
 use Rattle.tables.specs.declared.kinds.NodeKind.{NodeKind}
@@ -11,6 +12,11 @@ use Rattle.tables.specs.declared.kinds.StatementKind.TheVariants as statement
 abbrev pub under : {K : Type 0} → ℕ → List (ℕ × K) → Option K
 under n [] = None
 under n (k ∷ ks) = cond (n == k.0) (Some k.1) (under n ks)
+
+-- the kind that stands under the number `n`, or that none does
+abbrev pub known : {K : Type 0} → ℕ → Option K → Result K UnknownKind
+known n None = Err (record { number = n })
+known n (Some kind) = Ok kind
 
 abbrev pub type_kind : ℕ → Option TypeKind
 type_kind n = under n (

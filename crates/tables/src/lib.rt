@@ -1,6 +1,7 @@
 //! The byte format of a model: its numbers, rows and tables, and the reader that makes them.
 #![tactic(auto)]
 
+pub mod check;
 pub mod kinds;
 mod numbers;
 pub mod place;

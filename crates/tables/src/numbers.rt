@@ -18,15 +18,14 @@ pub(crate) fn numbers(heap: Global, bytes: &[u8]) -> Result<Vec<u16>, AllocError
 
 /// A row of a table: a fixed number of columns, each a number.
 pub(crate) trait Row: Copy {
-    ghost width: { ℕ };
+    ghost WIDTH: { ℕ };
 
     ghost spelled: { List ℕ → Self };
 
-    fn width() -> usize
-        ensures width { result ≡ width };
+    const WIDTH: usize;
 
     fn read(cells: &[u16]) -> Self
-        requires { length cells.now ≡ width }
+        requires { length cells.now ≡ WIDTH }
         ensures spelled { result ≡ spelled cells.now };
 }
 
@@ -36,14 +35,13 @@ pub(crate) fn rows<R: Row>(
     numbers: &[u16],
     count: usize,
 ) -> Result<Vec<R>, AllocError>
-    requires { count * R.Row.width ≤ length numbers.now }
-    ensures spelled { IfOk result (λ v. v.items ≡ rows_of R.Row.width R.Row.spelled count numbers.now) }
+    requires { count * R.Row.WIDTH ≤ length numbers.now }
+    ensures spelled { IfOk result (λ v. v.items ≡ rows_of R.Row.WIDTH R.Row.spelled count numbers.now) }
 {
-    let width = R::width();
     let mut out = Vec::with_capacity(heap, count)?;
     let mut left = numbers;
     for i in 0..count {
-        let (cells, rest) = left.split_at(width);
+        let (cells, rest) = left.split_at(R::WIDTH);
         out.push(R::read(cells))?;
         left = rest;
     }

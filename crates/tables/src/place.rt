@@ -1,5 +1,7 @@
-ghost use Rattle.std.specs.Prelude.{◌≡◌};
+ghost use Rattle.std.specs.Prelude.{◌≡◌, ℕ};
 ghost use Rattle.tables.specs.Places.{table_number, rule_number};
+
+use std::fmt;
 
 /// The tables of a model in the order of the format, behind its header.
 #[derive(Clone, Copy, PartialEq, Eq, Debug)]
@@ -57,11 +59,18 @@ pub enum TableRule {
     Method,
 }
 
-impl TableRule {
-    /// The number under which a breach is reported.
-    pub fn number(self) -> u8
-        ensures number { result ≡ rule_number self }
-    {
+/// A rule, by the number under which a breach is reported.
+pub trait Rule: Copy {
+    ghost number: { Self → ℕ };
+
+    fn number(self) -> u8
+        ensures number { result ≡ number self };
+}
+
+impl Rule for TableRule {
+    ghost number = { rule_number };
+
+    fn number(self) -> u8 {
         match self {
             TableRule::Length => 1,
             TableRule::Counts => 2,
@@ -81,8 +90,16 @@ pub struct Fault<R> {
     pub row: usize,
 }
 
+/// The numbers of the rule and of the table, and the row.
+impl<R: Rule> fmt::Display for Fault<R> {
+    fn fmt<W: fmt::Write>(&self, f: &mut fmt::Formatter<W>) -> fmt::Result {
+        let (rule, table) = (self.rule.number(), self.table.number());
+        write!(f, "{rule} {table} {}", self.row)
+    }
+}
+
 /// A row of a table.
-#[derive(Clone, Copy)]
+#[derive(Clone, Copy, PartialEq, Eq, Debug)]
 pub struct Place {
     pub table: Table,
     pub row: usize,

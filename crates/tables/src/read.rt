@@ -2,35 +2,22 @@ ghost use Rattle.std.specs.Prelude.{◌≡◌, ℕ, ◌+◌, ◌*◌, ◌≤◌,
 ghost use Rattle.tables.specs.Numbers.{rows_of};
 ghost use Rattle.tables.specs.Layout.{wrong_length, header_counts, cells_of, content, cut};
 ghost use Rattle.tables.specs.Reading.{Reads, header_fault};
-ghost use Rattle.tables.specs.declared.read.ReadError.TheVariants.{NoMemory, Refused};
+ghost use Rattle.tables.specs.declared.check.CheckError.TheVariants.{Refused};
 
+use crate::check::CheckError;
 use crate::numbers::{Row, numbers, rows};
 use crate::place::{Fault, Table, TableRule};
 use crate::tables::{Counts, Tables};
 use std::alloc::{AllocError, Global};
 
-/// Why a model is not read.
-#[derive(Clone, Copy)]
-pub enum ReadError {
-    /// There is no memory for the tables.
-    NoMemory,
-    /// The model breaks a rule of the format.
-    Refused(Fault<TableRule>),
-}
-
-impl From<AllocError> for ReadError {
-    ghost from_gives = { λ _ r. r ≡ NoMemory };
-
-    fn from(_e: AllocError) -> ReadError {
-        ReadError::NoMemory
-    }
-}
+/// Why a model is not read: there is no memory for the tables, or it breaks a rule of the format.
+pub type ReadError = CheckError<TableRule>;
 
 /// The fault of a header that breaks the rule.
 pub fn header_fault(rule: TableRule) -> ReadError
     ensures fault { result ≡ Refused (header_fault rule) }
 {
-    ReadError::Refused(Fault {
+    CheckError::Refused(Fault {
         rule,
         table: Table::Header,
         row: 0,
@@ -49,8 +36,8 @@ fn wrong_length(bytes: &[u8]) -> bool
 
 /// The rows of one table, which begins at `at` among the numbers.
 fn section<R: Row>(heap: Global, cells: &[u16], at: usize, count: u16) -> Result<Vec<R>, AllocError>
-    requires { at + count * R.Row.width ≤ length cells.now }
-    ensures rows { IfOk result (λ v. v.items ≡ rows_of R.Row.width R.Row.spelled count (drop at cells.now)) }
+    requires { at + count * R.Row.WIDTH ≤ length cells.now }
+    ensures rows { IfOk result (λ v. v.items ≡ rows_of R.Row.WIDTH R.Row.spelled count (drop at cells.now)) }
 {
     rows(heap, &cells[at..], count as usize)
 }

@@ -112,13 +112,11 @@ pub struct StatementRow {
 }
 
 impl Row for TypeRow {
-    ghost width = { 2 };
+    ghost WIDTH = { 2 };
 
     ghost spelled = { type_row };
 
-    fn width() -> usize {
-        2
-    }
+    const WIDTH: usize = 2;
 
     fn read(cells: &[u16]) -> TypeRow {
         TypeRow {
@@ -129,13 +127,11 @@ impl Row for TypeRow {
 }
 
 impl Row for ListRow {
-    ghost width = { 1 };
+    ghost WIDTH = { 1 };
 
     ghost spelled = { list_row };
 
-    fn width() -> usize {
-        1
-    }
+    const WIDTH: usize = 1;
 
     fn read(cells: &[u16]) -> ListRow {
         ListRow { entry: cells[0] }
@@ -143,13 +139,11 @@ impl Row for ListRow {
 }
 
 impl Row for ConstructorRow {
-    ghost width = { 3 };
+    ghost WIDTH = { 3 };
 
     ghost spelled = { constructor_row };
 
-    fn width() -> usize {
-        3
-    }
+    const WIDTH: usize = 3;
 
     fn read(cells: &[u16]) -> ConstructorRow {
         ConstructorRow {
@@ -161,13 +155,11 @@ impl Row for ConstructorRow {
 }
 
 impl Row for FunctionRow {
-    ghost width = { 5 };
+    ghost WIDTH = { 5 };
 
     ghost spelled = { function_row };
 
-    fn width() -> usize {
-        5
-    }
+    const WIDTH: usize = 5;
 
     fn read(cells: &[u16]) -> FunctionRow {
         FunctionRow {
@@ -181,13 +173,11 @@ impl Row for FunctionRow {
 }
 
 impl Row for InterfaceRow {
-    ghost width = { 2 };
+    ghost WIDTH = { 2 };
 
     ghost spelled = { interface_row };
 
-    fn width() -> usize {
-        2
-    }
+    const WIDTH: usize = 2;
 
     fn read(cells: &[u16]) -> InterfaceRow {
         InterfaceRow {
@@ -198,13 +188,11 @@ impl Row for InterfaceRow {
 }
 
 impl Row for SignatureRow {
-    ghost width = { 4 };
+    ghost WIDTH = { 4 };
 
     ghost spelled = { signature_row };
 
-    fn width() -> usize {
-        4
-    }
+    const WIDTH: usize = 4;
 
     fn read(cells: &[u16]) -> SignatureRow {
         SignatureRow {
@@ -217,13 +205,11 @@ impl Row for SignatureRow {
 }
 
 impl Row for ClassRow {
-    ghost width = { 8 };
+    ghost WIDTH = { 8 };
 
     ghost spelled = { class_row };
 
-    fn width() -> usize {
-        8
-    }
+    const WIDTH: usize = 8;
 
     fn read(cells: &[u16]) -> ClassRow {
         ClassRow {
@@ -240,13 +226,11 @@ impl Row for ClassRow {
 }
 
 impl Row for MethodRow {
-    ghost width = { 7 };
+    ghost WIDTH = { 7 };
 
     ghost spelled = { method_row };
 
-    fn width() -> usize {
-        7
-    }
+    const WIDTH: usize = 7;
 
     fn read(cells: &[u16]) -> MethodRow {
         MethodRow {
@@ -262,13 +246,11 @@ impl Row for MethodRow {
 }
 
 impl Row for NodeRow {
-    ghost width = { 7 };
+    ghost WIDTH = { 7 };
 
     ghost spelled = { node_row };
 
-    fn width() -> usize {
-        7
-    }
+    const WIDTH: usize = 7;
 
     fn read(cells: &[u16]) -> NodeRow {
         NodeRow {
@@ -284,13 +266,11 @@ impl Row for NodeRow {
 }
 
 impl Row for BranchRow {
-    ghost width = { 3 };
+    ghost WIDTH = { 3 };
 
     ghost spelled = { branch_row };
 
-    fn width() -> usize {
-        3
-    }
+    const WIDTH: usize = 3;
 
     fn read(cells: &[u16]) -> BranchRow {
         BranchRow {
@@ -302,13 +282,11 @@ impl Row for BranchRow {
 }
 
 impl Row for StatementRow {
-    ghost width = { 11 };
+    ghost WIDTH = { 11 };
 
     ghost spelled = { statement_row };
 
-    fn width() -> usize {
-        11
-    }
+    const WIDTH: usize = 11;
 
     fn read(cells: &[u16]) -> StatementRow {
         StatementRow {

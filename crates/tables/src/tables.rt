@@ -6,6 +6,7 @@ use crate::rows::{
     BranchRow, ClassRow, ConstructorRow, FunctionRow, InterfaceRow, ListRow, MethodRow, NodeRow,
     SignatureRow, StatementRow, TypeRow,
 };
+use std::fmt;
 
 /// How many rows each table has.
 #[derive(Clone, Copy)]
@@ -37,6 +38,30 @@ pub struct Tables {
     pub nodes: Vec<NodeRow>,
     pub branches: Vec<BranchRow>,
     pub statements: Vec<StatementRow>,
+}
+
+/// Each table's name and number of rows, in one line.
+impl fmt::Display for Tables {
+    fn fmt<W: fmt::Write>(&self, f: &mut fmt::Formatter<W>) -> fmt::Result {
+        write!(f, "types {} lists {} ", self.types.len(), self.lists.len())?;
+        write!(f, "constructors {} ", self.constructors.len())?;
+        write!(f, "functions {} ", self.functions.len())?;
+        write!(f, "interfaces {} ", self.interfaces.len())?;
+        write!(f, "signatures {} ", self.signatures.len())?;
+        write!(
+            f,
+            "classes {} methods {} ",
+            self.classes.len(),
+            self.methods.len()
+        )?;
+        write!(
+            f,
+            "nodes {} branches {} ",
+            self.nodes.len(),
+            self.branches.len()
+        )?;
+        write!(f, "statements {}", self.statements.len())
+    }
 }
 
 impl Counts {
@@ -76,13 +101,11 @@ impl Counts {
 }
 
 impl Row for Counts {
-    ghost width = { 11 };
+    ghost WIDTH = { 11 };
 
     ghost spelled = { counts };
 
-    fn width() -> usize {
-        11
-    }
+    const WIDTH: usize = 11;
 
     fn read(cells: &[u16]) -> Counts {
         Counts {

@@ -1,6 +1,5 @@
 -- Patterns: the rules tied together, and children one after another.
-use Rattle.std.proofs.Common.{◌≡◌, ℕ, suc, ◌+◌, ◌<◌, ◌≤◌, Bool, true, false, cond, List, [], ◌∷◌, ◌++◌, length, get_or, drop, is_some, Some, None, Option, sym, refl, ap, ◌∙◌, append_assoc}
-use Rattle.std.proofs.lemmas.List.{drop_all, drop_more}
+use Rattle.std.proofs.Common.{◌≡◌, ℕ, suc, Bool, true, false, cond, List, [], ◌∷◌, ◌++◌, length, is_some, Some, None, Option, sym, refl, ap, ◌∙◌, append_assoc}
 use Rattle.tables.specs.declared.rows.FunctionRow.{FunctionRow}
 use Rattle.tables.specs.declared.rows.ListRow.{ListRow}
 use Rattle.tables.specs.Layout.{Content}
@@ -39,30 +38,23 @@ module _ (m : Content) (f : FunctionRow) (child : ℕ → Bindings → ValueType
   pub matched_unequal : (s : Bindings) (ns : List ℕ) (xs : List ListRow) → (length ns ≡ length xs → ⊥) → Matched (children_scope m f child s ns xs) s false s
   matched_unequal s ns xs ne = rw (unequal s ns xs ne) (matched_none s)
 
-  module _ (start s s' : Bindings) (ns : List ℕ) (xs : List ListRow) (i : ℕ) (d : ListRow) (fits : Bool)
-      (inv : (children_scope m f child s (drop i ns) (drop i xs) ≡ children_scope m f child start ns xs) × ((newer : Bindings) × (s ≡ newer ++ start)))
-      (lt : i < length ns) (lt' : i < length xs)
-      (tried : Matched (child_scope m f child s (get_or ns i 0) (get_or xs i d)) s fits s') where
+  -- a child, against the parameter at its place, with those behind them
+  module _ (start s s' : Bindings) (n : ℕ) (x : ListRow) (ns : List ℕ) (xs : List ListRow) (all : Option Bindings) (fits : Bool)
+      (behind : children_scope m f child s (n ∷ ns) (x ∷ xs) ≡ all) (grows : (newer : Bindings) × (s ≡ newer ++ start))
+      (tried : Matched (child_scope m f child s n x) s fits s') where
     grown : (newer : Bindings) × (s' ≡ newer ++ start)
-    grown = (tried.grows.0 ++ inv.1.0, tried.grows.1 ∙ ap (λ (z : Bindings). tried.grows.0 ++ z) inv.1.1 ∙ sym (append_assoc tried.grows.0 inv.1.0 start))
+    grown = (tried.grows.0 ++ grows.0, tried.grows.1 ∙ ap (λ (z : Bindings). tried.grows.0 ++ z) grows.1 ∙ sym (append_assoc tried.grows.0 grows.0 start))
 
-    whole : children_scope m f child start ns xs ≡ given (cond fits (Some s') None) (λ z. children_scope m f child z (drop (i + 1) ns) (drop (i + 1) xs))
-    whole = sym inv.0 ∙ rw (drop_more ns i 0 lt, drop_more xs i d lt', tried.scope)
+    whole : all ≡ given (cond fits (Some s') None) (λ z. children_scope m f child z ns xs)
+    whole = sym behind ∙ rw tried.scope
 
-    -- one child more
-    pub child_more : fits ≡ true →
-        (children_scope m f child s' (drop (i + 1) ns) (drop (i + 1) xs) ≡ children_scope m f child start ns xs) × ((newer : Bindings) × (s' ≡ newer ++ start))
+    -- it fits: one child more
+    pub child_more : fits ≡ true → (children_scope m f child s' ns xs ≡ all) × ((newer : Bindings) × (s' ≡ newer ++ start))
     child_more hit = (sym (rw hit at whole), grown)
 
-    -- a child that does not fit
-    pub child_stops : fits ≡ false → Matched (children_scope m f child start ns xs) start false s'
+    -- it does not fit
+    pub child_stops : fits ≡ false → Matched all start false s'
     child_stops miss = record { scope = rw miss at whole; grows = grown }
-
-  -- no child is left
-  pub children_done : (start s : Bindings) (ns : List ℕ) (xs : List ListRow) (i : ℕ) → length ns ≤ i → length xs ≤ i →
-      (children_scope m f child s (drop i ns) (drop i xs) ≡ children_scope m f child start ns xs) × ((newer : Bindings) × (s ≡ newer ++ start)) →
-      Matched (children_scope m f child start ns xs) start true s
-  children_done start s ns xs i le le' inv = record { scope = sym (rw (drop_all i ns le, drop_all i xs le') at inv.0); grows = inv.1 }
 
 -- a variable that fits
 pub variable_fits : (m : Content) (f : FunctionRow) (s s' : Bindings) (slot : ℕ) (t : ValueType) →

@@ -33,8 +33,8 @@ place_of slot e = go (ltb slot 8) refl
         let t = ltb-true slot 136 top in
         let f = field_slot (slot - 120) (omega arith) in
         (slot - 120, (omega arith, omega arith))
-    high true false low top h = absurd (let z : ◌≡◌ {A = ℕ} 0 1 = cc in omega arith)
-    high false c low top h = absurd (let z : ◌≡◌ {A = ℕ} 0 1 = cc in omega arith)
+    high true false low top h = cc
+    high false c low top h = cc
 
     go : (b : Bool) → ltb slot 8 ≡ b → (i : ℕ) × ((slot ≡ slot_of i) × (i < 16))
     go true low = let l = ltb-true slot 8 low in let f = local_slot slot l in (slot, (sym f, omega arith))

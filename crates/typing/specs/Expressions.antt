@@ -1,11 +1,12 @@
 -- The type of an expression: a rule for each kind of node, over the types of its children.
 use Rattle.std.specs.Prelude.{ℕ, Bool, true, false, ◌&&◌, List, [], ◌∷◌, drop, Some, None, Option}
+use Rattle.std.specs.List.{list_any, slice_get, list_all}
 use Rattle.tables.specs.declared.rows.BranchRow.{BranchRow}
 use Rattle.tables.specs.declared.rows.ClassRow.{ClassRow}
 use Rattle.tables.specs.declared.rows.FunctionRow.{FunctionRow}
 use Rattle.tables.specs.declared.rows.ListRow.{ListRow}
 use Rattle.tables.specs.Layout.{Content}
-use Rattle.rules.specs.Words.{some, part}
+use Rattle.rules.specs.Words.{part}
 use Rattle.placement.specs.Holders.{run_length}
 use Rattle.mapping.specs.Bindings.{lookup}
 use Rattle.syntax.specs.declared.nodes.Node.{Node}
@@ -15,7 +16,7 @@ use Rattle.syntax.specs.declared.types.ValueType.{ValueType}
 use Rattle.syntax.specs.declared.types.ValueType.TheVariants as type
 use Rattle.syntax.specs.Descent.{descend}
 use Rattle.syntax.specs.Nodes.{parts, node_at}
-use Rattle.syntax.specs.Rows.{row_at, given, when, every}
+use Rattle.syntax.specs.Rows.{given, when}
 use Rattle.syntax.specs.Types.{type_at, agree}
 use Rattle.typing.specs.declared.within.Within.{Within}
 use Rattle.typing.specs.declared.within.Within.TheVariants as within
@@ -24,7 +25,7 @@ use Rattle.typing.specs.Patterns.{null_type, parameters_of, pattern_scope}
 
 -- a class lists a type among its interfaces
 abbrev pub lists_type : Content → ClassRow → ValueType → Bool
-lists_type m c t = some (λ x. agree (entry_type m x) (Some t)) (part c.interfaces_first c.interfaces_count m.lists)
+lists_type m c t = list_any (λ x. agree (entry_type m x) (Some t)) (part c.interfaces_first c.interfaces_count m.lists)
 
 -- an object sees itself as an interface that its class lists; in a function there is no object
 abbrev pub this_type : Content → Within → ℕ → Option ValueType
@@ -50,11 +51,11 @@ module _ (m : Content) (w : Within) (child : ℕ → Bindings → Option ValueTy
 
   -- a constructor's data, if the arguments fit
   abbrev pub constructor_type : Bindings → ℕ → Parts → Option ValueType
-  constructor_type s c ps = given (row_at m.constructors c) (λ k. when (arguments_fit s (parts ps) (parameters_of m k)) (Some (type.Data k.number)))
+  constructor_type s c ps = given (slice_get m.constructors c) (λ k. when (arguments_fit s (parts ps) (parameters_of m k)) (Some (type.Data k.number)))
 
   -- a function's result, if the arguments fit
   abbrev pub function_type : Bindings → ℕ → Parts → Option ValueType
-  function_type s f ps = given (row_at m.functions f) (λ g. when (arguments_fit s (parts ps) (function_parameters m g)) (type_at m g.result))
+  function_type s f ps = given (slice_get m.functions f) (λ g. when (arguments_fit s (parts ps) (function_parameters m g)) (type_at m g.result))
 
   -- a branch's body, in the scope behind its pattern
   abbrev pub branch_type : FunctionRow → Bindings → ValueType → BranchRow → Option ValueType
@@ -62,7 +63,7 @@ module _ (m : Content) (w : Within) (child : ℕ → Bindings → Option ValueTy
 
   -- all branches have this type
   abbrev pub all_have : FunctionRow → Bindings → ValueType → ValueType → List BranchRow → Bool
-  all_have f s t u bs = every (λ b. agree (branch_type f s t b) (Some u)) bs
+  all_have f s t u bs = list_all (λ b. agree (branch_type f s t b) (Some u)) bs
 
   -- the type of the first branch, if the others have it too
   abbrev pub common_type : FunctionRow → Bindings → ValueType → List BranchRow → Option ValueType

@@ -1,5 +1,4 @@
 pub mod Expressions
-pub mod Faults
 pub mod Giving
 pub mod Matching
 pub mod Patterns

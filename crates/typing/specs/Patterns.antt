@@ -1,6 +1,7 @@
 -- Which types a pattern fits, and what it binds. A pattern's rule takes the scope before it, and gives the scope behind it, or
 -- nothing where the node is no pattern or does not fit the type.
 use Rattle.std.specs.Prelude.{ℕ, List, [], ◌∷◌, Some, None, Option}
+use Rattle.std.specs.List.{slice_get}
 use Rattle.tables.specs.declared.rows.ConstructorRow.{ConstructorRow}
 use Rattle.tables.specs.declared.rows.FunctionRow.{FunctionRow}
 use Rattle.tables.specs.declared.rows.ListRow.{ListRow}
@@ -13,7 +14,7 @@ use Rattle.syntax.specs.declared.types.ValueType.{ValueType}
 use Rattle.syntax.specs.declared.types.ValueType.TheVariants as type
 use Rattle.syntax.specs.Descent.{descend}
 use Rattle.syntax.specs.Nodes.{parts, node_at}
-use Rattle.syntax.specs.Rows.{row_at, given, when}
+use Rattle.syntax.specs.Rows.{given, when}
 use Rattle.syntax.specs.Types.{type_at, same, agree, nullable}
 use Rattle.typing.specs.Scopes.{Bindings, entry_type, declared, bind_free}
 
@@ -45,7 +46,7 @@ module _ (m : Content) (f : FunctionRow) (child : ℕ → Bindings → ValueType
   -- a constructor of the matched data, whose children fit
   abbrev pub constructor_scope : Bindings → ℕ → Parts → ValueType → Option Bindings
   constructor_scope s c ps t =
-      given (row_at m.constructors c) (λ k. when (same t (type.Data k.number)) (children_scope s (parts ps) (parameters_of m k)))
+      given (slice_get m.constructors c) (λ k. when (same t (type.Data k.number)) (children_scope s (parts ps) (parameters_of m k)))
 
   -- The rule of each kind.
   abbrev pub pattern_rule : Bindings → Node → ValueType → Option Bindings

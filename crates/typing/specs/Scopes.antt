@@ -1,5 +1,6 @@
 -- Which slots are bound where an expression stands, and their types.
 use Rattle.std.specs.Prelude.{ℕ, zero, suc, ◌+◌, cond, ◌&&◌, List, [], ◌∷◌, is_some, Some, None, Option, nat_lt}
+use Rattle.std.specs.List.{slice_get}
 use Rattle.tables.specs.declared.rows.ClassRow.{ClassRow}
 use Rattle.tables.specs.declared.rows.FunctionRow.{FunctionRow}
 use Rattle.tables.specs.declared.rows.ListRow.{ListRow}
@@ -8,7 +9,7 @@ use Rattle.tables.specs.Layout.{Content}
 use Rattle.mapping.specs.declared.mapping.Binding.{Binding}
 use Rattle.mapping.specs.Bindings.{lookup}
 use Rattle.syntax.specs.declared.types.ValueType.{ValueType}
-use Rattle.syntax.specs.Rows.{row_at, given, when}
+use Rattle.syntax.specs.Rows.{given, when}
 use Rattle.syntax.specs.Types.{type_at}
 
 -- the bindings of a scope, the newest first
@@ -21,7 +22,7 @@ entry_type m x = type_at m x.entry
 
 -- The type of the slot `k` of a list of `count` slots; a list has at most eight.
 abbrev pub declared : Content → (first count k : ℕ) → Option ValueType
-declared m first count k = when (nat_lt k 8 && nat_lt k count) (given (row_at m.lists (first + k)) (entry_type m))
+declared m first count k = when (nat_lt k 8 && nat_lt k count) (given (slice_get m.lists (first + k)) (entry_type m))
 
 -- A slot that is bound already is not bound anew.
 abbrev pub bind_free : ℕ → ValueType → Bindings → Bindings

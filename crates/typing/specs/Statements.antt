@@ -1,12 +1,14 @@
 -- The rules of statements. A statement stands in a method of a class, in the scope of the method's slots and the class's fields.
 use Rattle.std.specs.Prelude.{ℕ, Bool, true, false, ◌&&◌, List, Some, None, Option, nat_eq}
+use Rattle.std.specs.List.{find, slice_get, list_all}
+use Rattle.std.specs.Option.{option_map}
 use Rattle.tables.specs.declared.rows.ClassRow.{ClassRow}
 use Rattle.tables.specs.declared.rows.InterfaceRow.{InterfaceRow}
 use Rattle.tables.specs.declared.rows.ListRow.{ListRow}
 use Rattle.tables.specs.declared.rows.MethodRow.{MethodRow}
 use Rattle.tables.specs.declared.rows.SignatureRow.{SignatureRow}
 use Rattle.tables.specs.Layout.{Content}
-use Rattle.rules.specs.Words.{part, first_that}
+use Rattle.rules.specs.Words.{part, passes}
 use Rattle.placement.specs.Holders.{in_range}
 use Rattle.mapping.specs.Bindings.{lookup}
 use Rattle.syntax.specs.declared.statements.Call.{Call}
@@ -18,7 +20,7 @@ use Rattle.syntax.specs.declared.statements.Statement.TheVariants as statement
 use Rattle.syntax.specs.declared.types.ValueType.{ValueType}
 use Rattle.syntax.specs.declared.types.ValueType.TheVariants as type
 use Rattle.syntax.specs.Nodes.{parts}
-use Rattle.syntax.specs.Rows.{row_at, given, passes, every}
+use Rattle.syntax.specs.Rows.{given}
 use Rattle.syntax.specs.Types.{type_at, agree}
 use Rattle.typing.specs.declared.calls.Heading.{Heading}
 use Rattle.typing.specs.declared.within.Within.TheVariants as within
@@ -53,12 +55,11 @@ signature_heading g = record { first = g.first; count = g.count; result = g.resu
 -- the method of this name in a class
 abbrev pub method_named : Content → ClassRow → ℕ → Option Heading
 method_named m c name =
-    given (first_that (λ x. nat_eq x.name name) (part c.methods_first c.methods_count m.methods)) (λ x. Some (method_heading x))
+    option_map method_heading (find (λ x. nat_eq x.name name) (part c.methods_first c.methods_count m.methods))
 
 -- the signature of this name in an interface
 abbrev pub signature_in : Content → InterfaceRow → ℕ → Option Heading
-signature_in m i name =
-    given (first_that (λ g. nat_eq g.name name) (part i.first i.count m.signatures)) (λ g. Some (signature_heading g))
+signature_in m i name = option_map signature_heading (find (λ g. nat_eq g.name name) (part i.first i.count m.signatures))
 
 -- the signature of this name in a type, if that is an interface
 abbrev pub signature_named : Content → ValueType → ℕ → Option Heading
@@ -66,7 +67,7 @@ signature_named m type.Unit name = None
 signature_named m type.Bool name = None
 signature_named m type.Int name = None
 signature_named m (type.Data d) name = None
-signature_named m (type.Interface i) name = given (row_at m.interfaces i) (λ x. signature_in m x name)
+signature_named m (type.Interface i) name = given (slice_get m.interfaces i) (λ x. signature_in m x name)
 signature_named m (type.Future r) name = None
 
 -- What a call gives: at once the result, else a future of it.
@@ -98,7 +99,7 @@ takes_object m s (Some slot) k = passes (lookup slot s) (lists_type m k)
 
 -- an await may name the slots
 abbrev pub all_awaitable : Bindings → List ℕ → Bool
-all_awaitable s slots = every (λ slot. passes (lookup slot s) awaitable) slots
+all_awaitable s slots = list_all (λ slot. passes (lookup slot s) awaitable) slots
 
 module _ (m : Content) (c : ClassRow) (s : Bindings) where
   -- expressions and arguments of a statement of the class
@@ -119,7 +120,7 @@ module _ (m : Content) (c : ClassRow) (s : Bindings) where
 
   -- the arguments fit the class that is named, and the target takes an object of it
   abbrev pub new_rule : Option ℕ → Creation → Bool
-  new_rule target n = passes (row_at m.classes n.class) (λ k. arguments_here (parts n.arguments) (class_parameters m k) && takes_object m s target k)
+  new_rule target n = passes (slice_get m.classes n.class) (λ k. arguments_here (parts n.arguments) (class_parameters m k) && takes_object m s target k)
 
   -- there is such a method, the arguments fit it, and the target takes what the call gives
   abbrev pub call_rule : Option ℕ → Call → Bool

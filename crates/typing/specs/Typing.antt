@@ -1,5 +1,6 @@
 -- Functions and statements that have a type, and which places break the typing rules.
 use Rattle.std.specs.Prelude.{ℕ, Bool, false, cond, not, [], ◌∷◌, Some, None, Option, ◌==◌, slice_index_or}
+use Rattle.std.specs.List.{slice_get}
 use Rattle.tables.specs.declared.place.Fault.{Fault}
 use Rattle.tables.specs.declared.place.Table.{Table}
 use Rattle.tables.specs.declared.place.Table.TheVariants as table
@@ -10,10 +11,10 @@ use Rattle.tables.specs.declared.rows.StatementRow.{StatementRow}
 use Rattle.tables.specs.Layout.{Content}
 use Rattle.tables.specs.Least.{Case, verdict_of}
 use Rattle.tables.specs.Places.{table_number}
-use Rattle.rules.specs.Faults.{places}
-use Rattle.rules.specs.Words.{at}
+use Rattle.rules.specs.Faults.{places, table_fault}
+use Rattle.rules.specs.Words.{at, passes}
 use Rattle.placement.specs.Holders.{Holders, method_classes, statement_methods}
-use Rattle.syntax.specs.Rows.{row_at, given, passes}
+use Rattle.syntax.specs.Rows.{given}
 use Rattle.syntax.specs.Statements.{statement_of}
 use Rattle.syntax.specs.Types.{type_at, agree}
 use Rattle.typing.specs.declared.judge.Placed.{Placed}
@@ -40,13 +41,20 @@ statement_typed m c x y = passes (statement_of y) (statement_rule m c (method_sc
 -- Where a statement stands: its method and the method's class, if there are both.
 abbrev pub placed_in : Content → (methods classes : Holders) → ℕ → Option Placed
 placed_in m methods classes r =
-    given (slice_index_or methods r None) (λ method. given (row_at m.methods method.row) (λ x.
-    given (slice_index_or classes method.row None) (λ class. given (row_at m.classes class.row) (λ c.
+    given (slice_index_or methods r None) (λ method. given (slice_get m.methods method.row) (λ x.
+    given (slice_index_or classes method.row None) (λ class. given (slice_get m.classes class.row) (λ c.
     Some (record { class = c; method = x })))))
 
 -- A placed statement that does not keep its rule.
 abbrev pub untyped_in : Content → (methods classes : Holders) → ℕ → StatementRow → Bool
 untyped_in m methods classes r y = passes (placed_in m methods classes r) (λ p. not (statement_typed m p.class p.method y))
+
+-- The first function without a type, and the first placed statement without one.
+abbrev pub untyped_function : Content → Option (Fault TypingRule)
+untyped_function m = table_fault m.functions (λ r f. not (function_typed m f)) rule.Function table.Functions
+
+abbrev pub untyped_statement : Content → (methods classes : Holders) → Option (Fault TypingRule)
+untyped_statement m methods classes = table_fault m.statements (untyped_in m methods classes) rule.Statement table.Statements
 
 -- a rule that only rows of one table can break
 abbrev pub only_in : Table → (ℕ → Bool) → Table → ℕ → Bool

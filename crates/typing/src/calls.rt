@@ -3,12 +3,10 @@ ghost use Rattle.std.specs.Prelude.{◌≡◌};
 ghost use Rattle.tables.specs.Layout.{content};
 ghost use Rattle.typing.specs.Statements.{method_heading, signature_heading, method_named, signature_in, signature_named, given_by, value_of, awaitable, heading_parameters, class_parameters};
 
-use rules::named::Named;
-use rules::search::{find, part};
-use syntax::rows::row_at;
+use rules::search::part;
 use syntax::statements::Manner;
 use syntax::types::{ValueType, type_at};
-use tables::rows::{ClassRow, InterfaceRow, ListRow};
+use tables::rows::{ClassRow, InterfaceRow, ListRow, MethodRow, SignatureRow};
 use tables::tables::Tables;
 
 /// The heading of a method or a signature: its parameters, a range of the lists, and its result, a row of the types.
@@ -17,6 +15,30 @@ pub struct Heading {
     pub first: u16,
     pub count: u16,
     pub result: u16,
+}
+
+impl From<MethodRow> for Heading {
+    ghost from_gives = { λ method r. r ≡ method_heading method };
+
+    fn from(method: MethodRow) -> Heading {
+        Heading {
+            first: method.slots_first,
+            count: method.parameters,
+            result: method.result,
+        }
+    }
+}
+
+impl From<SignatureRow> for Heading {
+    ghost from_gives = { λ signature r. r ≡ signature_heading signature };
+
+    fn from(signature: SignatureRow) -> Heading {
+        Heading {
+            first: signature.first,
+            count: signature.count,
+            result: signature.result,
+        }
+    }
 }
 
 /// The method of this name in the class.
@@ -28,14 +50,10 @@ pub(crate) fn method_named(t: &Tables, class: ClassRow, name: u16) -> Option<Hea
         class.methods_first as usize,
         class.methods_count as usize,
     );
-    match find(methods, &Named(name)) {
-        None => None,
-        Some(method) => Some(Heading {
-            first: method.slots_first,
-            count: method.parameters,
-            result: method.result,
-        }),
-    }
+    methods
+        .iter()
+        .find(|method| method.name == name)
+        .map(|method| Heading::from(*method))
 }
 
 /// The signature of this name in the interface.
@@ -47,14 +65,10 @@ fn signature_in(t: &Tables, interface: InterfaceRow, name: u16) -> Option<Headin
         interface.first as usize,
         interface.count as usize,
     );
-    match find(signatures, &Named(name)) {
-        None => None,
-        Some(signature) => Some(Heading {
-            first: signature.first,
-            count: signature.count,
-            result: signature.result,
-        }),
-    }
+    signatures
+        .iter()
+        .find(|signature| signature.name == name)
+        .map(|signature| Heading::from(*signature))
 }
 
 /// The signature of this name in the type, if that is an interface.
@@ -64,10 +78,8 @@ pub(crate) fn signature_named(t: &Tables, of: ValueType, name: u16) -> Option<He
     let ValueType::Interface(interface) = of else {
         return None;
     };
-    match row_at(t.interfaces.as_slice(), interface as usize) {
-        None => None,
-        Some(interface) => signature_in(t, interface, name),
-    }
+    let interface = t.interfaces.get(interface as usize).copied()?;
+    signature_in(t, interface, name)
 }
 
 /// What a call gives, whose method has this result.
@@ -94,10 +106,7 @@ pub(crate) fn value_of(t: &Tables, of: ValueType) -> Option<ValueType>
 pub(crate) fn awaitable(of: ValueType) -> bool
     ensures awaitable { result ≡ awaitable of }
 {
-    match of {
-        ValueType::Bool | ValueType::Future(_) => true,
-        _ => false,
-    }
+    matches!(of, ValueType::Bool | ValueType::Future(_))
 }
 
 pub(crate) fn heading_parameters(t: &Tables, heading: Heading) -> &[ListRow]

@@ -9,8 +9,7 @@ ghost use Rattle.typing.specs.Expressions.{lists_type, this_type, branches_of, f
 
 use crate::within::Within;
 use placement::holders::run_length;
-use rules::search::{Test, any, part};
-use syntax::rows::row_at;
+use rules::search::part;
 use syntax::types::{ValueType, agree, type_at};
 use tables::rows::{BranchRow, ClassRow, ConstructorRow, FunctionRow, ListRow};
 use tables::tables::Tables;
@@ -29,35 +28,15 @@ pub(crate) fn declared(t: &Tables, first: u16, count: u16, k: u16) -> Option<Val
     if k >= 8 || k >= count {
         return None;
     }
-    match row_at(t.lists.as_slice(), first as usize + k as usize) {
-        None => None,
-        Some(entry) => entry_type(t, entry),
-    }
+    let entry = t.lists.get(first as usize + k as usize).copied()?;
+    entry_type(t, entry)
 }
 
 /// The type of the null of this row of the types.
 pub(crate) fn null_type(t: &Tables, row: u16) -> Option<ValueType>
     ensures null { result ≡ null_type (content t.now) row }
 {
-    match type_at(t, row) {
-        Some(of) if of.nullable() => Some(of),
-        _ => None,
-    }
-}
-
-/// Entries of a list that name this type.
-#[derive(Clone, Copy)]
-struct Names<'a> {
-    t: &'a Tables,
-    named: ValueType,
-}
-
-impl Test<ListRow> for Names<'_> {
-    ghost holds = { λ s x. agree (entry_type (content s.t.now) x) (Some s.named) };
-
-    fn holds(&self, x: ListRow) -> bool {
-        agree(entry_type(self.t, x), Some(self.named))
-    }
+    type_at(t, row).filter(|of| of.nullable())
 }
 
 /// Whether the class lists the type among its interfaces.
@@ -69,7 +48,9 @@ pub(crate) fn lists_type(t: &Tables, class: ClassRow, named: ValueType) -> bool
         class.interfaces_first as usize,
         class.interfaces_count as usize,
     );
-    any(listed, &Names { t, named })
+    listed
+        .iter()
+        .any(|entry| agree(entry_type(t, *entry), Some(named)))
 }
 
 /// The type as which an object sees itself, by the row of the types that is named.
@@ -79,10 +60,7 @@ pub(crate) fn this_type(t: &Tables, within: Within, row: u16) -> Option<ValueTyp
     let Within::Class(class) = within else {
         return None;
     };
-    match type_at(t, row) {
-        Some(of) if lists_type(t, class, of) => Some(of),
-        _ => None,
-    }
+    type_at(t, row).filter(|of| lists_type(t, class, *of))
 }
 
 /// The parameters of a constructor.
@@ -111,7 +89,6 @@ pub(crate) fn function_parameters(t: &Tables, function: FunctionRow) -> &[ListRo
 pub(crate) fn branches_of(t: &Tables, first: u16) -> &[BranchRow]
     ensures branches { result.now ≡ branches_of (content t.now) first }
 {
-    let branches = t.branches.as_slice();
-    let start = (first as usize).min(branches.len());
-    part(branches, first as usize, run_length(&branches[start..]))
+    let rest = t.branches.get(first as usize..).unwrap_or(&[]);
+    &rest[..run_length(rest)]
 }

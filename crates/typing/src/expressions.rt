@@ -1,10 +1,10 @@
 //! The type of an expression, by a recursion on its row: children stand in lower rows.
 ghost use Rattle.std.specs.Prelude.{◌≡◌, Some};
-ghost use Rattle.syntax.specs.Rows.{when};
+ghost use Rattle.tables.specs.Layout.{content};
 ghost use Rattle.syntax.specs.Types.{agree};
 ghost use Rattle.typing.specs.Expressions.{type_in, type_rule, arguments_fit, constructor_type, function_type, branch_type, all_have, common_type, case_type, both};
 ghost use Rattle.typing.specs.Giving.{Gives};
-ghost use Rattle.typing.specs.Views.{bindings_of, tables_of, lower_types};
+ghost use Rattle.typing.specs.Views.{lower_types};
 
 use crate::declared::{
     branches_of, entry_type, function_parameters, null_type, parameters_of, this_type,
@@ -13,7 +13,6 @@ use crate::patterns::Patterns;
 use crate::scope::Scope;
 use crate::within::Within;
 use syntax::nodes::{Node, Parts, node_at};
-use syntax::rows::row_at;
 use syntax::types::{ValueType, agree, type_at};
 use tables::rows::{BranchRow, FunctionRow, ListRow};
 use tables::tables::Tables;
@@ -36,18 +35,16 @@ impl Expressions<'_> {
     /// The type of the expression in this row, if it has one.
     #[cycle(expression_types)]
     pub(crate) fn type_of(&self, scope: &mut Scope<'_, '_>, row: u16) -> Option<ValueType>
-        ensures gives { Gives (type_in (tables_of self.now) self.now.within row (bindings_of scope.old)) (bindings_of scope.old) result (bindings_of scope.new) }
+        ensures gives { Gives (type_in (content self.now.t.now) self.now.within row scope.old) scope.old result scope.new }
     {
-        match node_at(self.t, row) {
-            None => None,
-            Some(node) => self.node_type(scope, row as usize, node),
-        }
+        let node = node_at(self.t, row)?;
+        self.node_type(scope, row as usize, node)
     }
 
     /// The type of a node, whose children stand below this row.
     #[cycle(expression_types)]
     fn node_type(&self, scope: &mut Scope<'_, '_>, row: usize, node: Node) -> Option<ValueType>
-        ensures gives { Gives (type_rule (tables_of self.now) self.now.within (lower_types self.now row) (bindings_of scope.old) node) (bindings_of scope.old) result (bindings_of scope.new) }
+        ensures gives { Gives (type_rule (content self.now.t.now) self.now.within (lower_types self.now row) scope.old node) scope.old result scope.new }
     {
         match node {
             Node::Unit => Some(ValueType::Unit),
@@ -63,16 +60,19 @@ impl Expressions<'_> {
                 self.function_type(scope, row, function, arguments)
             }
             Node::Case(examined, first) => self.case_type(scope, row, examined, first),
-            Node::Add(a, b) | Node::Subtract(a, b) | Node::Divide(a, b) => {
-                when(self.both(scope, row, ValueType::Int, a, b), ValueType::Int)
-            }
-            Node::Less(a, b) => when(self.both(scope, row, ValueType::Int, a, b), ValueType::Bool),
-            Node::Equal(a, b) => when(self.alike(scope, row, a, b), ValueType::Bool),
-            Node::Not(a) => when(self.has(scope, row, ValueType::Bool, a), ValueType::Bool),
-            Node::And(a, b) => when(
-                self.both(scope, row, ValueType::Bool, a, b),
-                ValueType::Bool,
-            ),
+            Node::Add(a, b) | Node::Subtract(a, b) | Node::Divide(a, b) => self
+                .both(scope, row, ValueType::Int, a, b)
+                .then_some(ValueType::Int),
+            Node::Less(a, b) => self
+                .both(scope, row, ValueType::Int, a, b)
+                .then_some(ValueType::Bool),
+            Node::Equal(a, b) => self.alike(scope, row, a, b).then_some(ValueType::Bool),
+            Node::Not(a) => self
+                .has(scope, row, ValueType::Bool, a)
+                .then_some(ValueType::Bool),
+            Node::And(a, b) => self
+                .both(scope, row, ValueType::Bool, a, b)
+                .then_some(ValueType::Bool),
             Node::Wildcard | Node::Variable(_) => None,
         }
     }
@@ -80,7 +80,7 @@ impl Expressions<'_> {
     /// The type of a child, if it stands below this row.
     #[cycle(expression_types)]
     fn lower_type(&self, scope: &mut Scope<'_, '_>, row: usize, child: u16) -> Option<ValueType>
-        ensures gives { Gives (lower_types self.now row child (bindings_of scope.old)) (bindings_of scope.old) result (bindings_of scope.new) }
+        ensures gives { Gives (lower_types self.now row child scope.old) scope.old result scope.new }
     {
         if child as usize >= row {
             return None;
@@ -91,7 +91,7 @@ impl Expressions<'_> {
     /// Whether a child has this type.
     #[cycle(expression_types)]
     fn has(&self, scope: &mut Scope<'_, '_>, row: usize, to: ValueType, child: u16) -> bool
-        ensures gives { Gives (agree (lower_types self.now row child (bindings_of scope.old)) (Some to)) (bindings_of scope.old) result (bindings_of scope.new) }
+        ensures gives { Gives (agree (lower_types self.now row child scope.old) (Some to)) scope.old result scope.new }
     {
         agree(self.lower_type(scope, row, child), Some(to))
     }
@@ -99,7 +99,7 @@ impl Expressions<'_> {
     /// Whether two children have this type.
     #[cycle(expression_types)]
     fn both(&self, scope: &mut Scope<'_, '_>, row: usize, to: ValueType, a: u16, b: u16) -> bool
-        ensures gives { Gives (both (tables_of self.now) self.now.within (lower_types self.now row) (bindings_of scope.old) to a b) (bindings_of scope.old) result (bindings_of scope.new) }
+        ensures gives { Gives (both (content self.now.t.now) self.now.within (lower_types self.now row) scope.old to a b) scope.old result scope.new }
     {
         self.has(scope, row, to, a) && self.has(scope, row, to, b)
     }
@@ -107,7 +107,7 @@ impl Expressions<'_> {
     /// Whether two children have one type.
     #[cycle(expression_types)]
     fn alike(&self, scope: &mut Scope<'_, '_>, row: usize, a: u16, b: u16) -> bool
-        ensures gives { Gives (agree (lower_types self.now row a (bindings_of scope.old)) (lower_types self.now row b (bindings_of scope.old))) (bindings_of scope.old) result (bindings_of scope.new) }
+        ensures gives { Gives (agree (lower_types self.now row a scope.old) (lower_types self.now row b scope.old)) scope.old result scope.new }
     {
         let first = self.lower_type(scope, row, a);
         agree(first, self.lower_type(scope, row, b))
@@ -121,17 +121,12 @@ impl Expressions<'_> {
         constructor: u16,
         children: Parts,
     ) -> Option<ValueType>
-        ensures gives { Gives (constructor_type (tables_of self.now) self.now.within (lower_types self.now row) (bindings_of scope.old) constructor children) (bindings_of scope.old) result (bindings_of scope.new) }
+        ensures gives { Gives (constructor_type (content self.now.t.now) self.now.within (lower_types self.now row) scope.old constructor children) scope.old result scope.new }
     {
-        let Some(constructor) = row_at(self.t.constructors.as_slice(), constructor as usize) else {
-            return None;
-        };
+        let constructor = self.t.constructors.get(constructor as usize).copied()?;
         let parameters = parameters_of(self.t, constructor);
-        if self.arguments_fit(scope, row, children.as_slice(), parameters) {
-            Some(ValueType::Data(constructor.number))
-        } else {
-            None
-        }
+        self.arguments_fit(scope, row, children.as_slice(), parameters)
+            .then_some(ValueType::Data(constructor.number))
     }
 
     #[cycle(expression_types)]
@@ -142,11 +137,9 @@ impl Expressions<'_> {
         function: u16,
         arguments: Parts,
     ) -> Option<ValueType>
-        ensures gives { Gives (function_type (tables_of self.now) self.now.within (lower_types self.now row) (bindings_of scope.old) function arguments) (bindings_of scope.old) result (bindings_of scope.new) }
+        ensures gives { Gives (function_type (content self.now.t.now) self.now.within (lower_types self.now row) scope.old function arguments) scope.old result scope.new }
     {
-        let Some(function) = row_at(self.t.functions.as_slice(), function as usize) else {
-            return None;
-        };
+        let function = self.t.functions.get(function as usize).copied()?;
         let parameters = function_parameters(self.t, function);
         if self.arguments_fit(scope, row, arguments.as_slice(), parameters) {
             type_at(self.t, function.result)
@@ -164,14 +157,14 @@ impl Expressions<'_> {
         arguments: &[u16],
         parameters: &[ListRow],
     ) -> bool
-        ensures gives { Gives (arguments_fit (tables_of self.now) self.now.within (lower_types self.now row) (bindings_of scope.old) arguments.now parameters.now) (bindings_of scope.old) result (bindings_of scope.new) }
+        ensures gives { Gives (arguments_fit (content self.now.t.now) self.now.within (lower_types self.now row) scope.old arguments.now parameters.now) scope.old result scope.new }
     {
         if arguments.len() != parameters.len() {
             return false;
         }
-        for i in 0..arguments.len() {
-            let to = entry_type(self.t, parameters[i]);
-            if !agree(self.lower_type(scope, row, arguments[i]), to) {
+        for (argument, parameter) in arguments.iter().zip(parameters) {
+            let to = entry_type(self.t, *parameter);
+            if !agree(self.lower_type(scope, row, *argument), to) {
                 return false;
             }
         }
@@ -186,18 +179,14 @@ impl Expressions<'_> {
         examined: u16,
         first: u16,
     ) -> Option<ValueType>
-        ensures gives { Gives (case_type (tables_of self.now) self.now.within (lower_types self.now row) self.now.within (bindings_of scope.old) examined first) (bindings_of scope.old) result (bindings_of scope.new) }
+        ensures gives { Gives (case_type (content self.now.t.now) self.now.within (lower_types self.now row) self.now.within scope.old examined first) scope.old result scope.new }
     {
         let Within::Function(function) = self.within else {
             return None;
         };
-        match self.lower_type(scope, row, examined) {
-            None => None,
-            Some(to) => {
-                let case = Examined { function, to };
-                self.common_type(scope, row, case, branches_of(self.t, first))
-            }
-        }
+        let to = self.lower_type(scope, row, examined)?;
+        let case = Examined { function, to };
+        self.common_type(scope, row, case, branches_of(self.t, first))
     }
 
     /// The type of the first branch, if the others have it too.
@@ -209,15 +198,12 @@ impl Expressions<'_> {
         case: Examined,
         branches: &[BranchRow],
     ) -> Option<ValueType>
-        ensures gives { Gives (common_type (tables_of self.now) self.now.within (lower_types self.now row) case.function (bindings_of scope.old) case.to branches.now) (bindings_of scope.old) result (bindings_of scope.new) }
+        ensures gives { Gives (common_type (content self.now.t.now) self.now.within (lower_types self.now row) case.function scope.old case.to branches.now) scope.old result scope.new }
     {
-        let [first, rest @ ..] = branches else {
-            return None;
-        };
-        match self.branch_type(scope, row, case, *first) {
-            Some(common) if self.all_have(scope, row, case, common, rest) => Some(common),
-            _ => None,
-        }
+        let (first, rest) = branches.split_first()?;
+        let common = self.branch_type(scope, row, case, *first)?;
+        self.all_have(scope, row, case, common, rest)
+            .then_some(common)
     }
 
     /// Whether all branches have this type.
@@ -230,8 +216,9 @@ impl Expressions<'_> {
         common: ValueType,
         branches: &[BranchRow],
     ) -> bool
-        ensures gives { Gives (all_have (tables_of self.now) self.now.within (lower_types self.now row) case.function (bindings_of scope.old) case.to common branches.now) (bindings_of scope.old) result (bindings_of scope.new) }
+        ensures gives { Gives (all_have (content self.now.t.now) self.now.within (lower_types self.now row) case.function scope.old case.to common branches.now) scope.old result scope.new }
     {
+        // Not `all`: a closure that changes the scope tells the proof nothing.
         for branch in branches {
             if !agree(self.branch_type(scope, row, case, *branch), Some(common)) {
                 return false;
@@ -249,17 +236,18 @@ impl Expressions<'_> {
         case: Examined,
         branch: BranchRow,
     ) -> Option<ValueType>
-        ensures gives { Gives (branch_type (tables_of self.now) self.now.within (lower_types self.now row) case.function (bindings_of scope.old) case.to branch) (bindings_of scope.old) result (bindings_of scope.new) }
+        ensures gives { Gives (branch_type (content self.now.t.now) self.now.within (lower_types self.now row) case.function scope.old case.to branch) scope.old result scope.new }
     {
         let before = scope.length();
         let patterns = Patterns {
             t: self.t,
             function: case.function,
         };
-        let mut found = None;
-        if patterns.fits(scope, branch.pattern, case.to) {
-            found = self.lower_type(scope, row, branch.body);
-        }
+        let found = if patterns.fits(scope, branch.pattern, case.to) {
+            self.lower_type(scope, row, branch.body)
+        } else {
+            None
+        };
         scope.cut(before);
         found
     }
@@ -276,15 +264,8 @@ impl Expressions<'_> {
         arguments: &[u16],
         parameters: &[ListRow],
     ) -> bool
-        ensures gives { Gives (arguments_fit (tables_of self.now) self.now.within (type_in (tables_of self.now) self.now.within) (bindings_of scope.old) arguments.now parameters.now) (bindings_of scope.old) result (bindings_of scope.new) }
+        ensures gives { Gives (arguments_fit (content self.now.t.now) self.now.within (type_in (content self.now.t.now) self.now.within) scope.old arguments.now parameters.now) scope.old result scope.new }
     {
         self.arguments_fit(scope, ABOVE_ALL, arguments, parameters)
     }
-}
-
-/// A type under a condition.
-fn when(holds: bool, of: ValueType) -> Option<ValueType>
-    ensures when { result ≡ when holds (Some of) }
-{
-    if holds { Some(of) } else { None }
 }

@@ -1,10 +1,9 @@
 //! Which functions and which placed statements have no type.
 ghost use Rattle.std.specs.Prelude.{◌≡◌, not, IfOk};
 ghost use Rattle.tables.specs.Layout.{content};
-ghost use Rattle.typing.specs.Typing.{function_typed, statement_typed, placed_in, untyped_in, typing_verdict};
+ghost use Rattle.typing.specs.Typing.{function_typed, statement_typed, placed_in, untyped_in, untyped_function, untyped_statement, typing_verdict};
 
 use crate::expressions::Expressions;
-use crate::faults::first_row;
 use crate::rule::TypingRule;
 use crate::scope::Scope;
 use crate::slots::{bind_method, bind_parameters};
@@ -13,9 +12,8 @@ use crate::within::Within;
 use mapping::mapping::{Binding, Mapping};
 use placement::holder;
 use placement::holders::{method_classes, statement_methods};
-use rules::faults::RowTest;
+use rules::faults::{RowTest, first_row};
 use std::alloc::{AllocError, Global};
-use syntax::rows::row_at;
 use syntax::statements::Statement;
 use syntax::types::{ValueType, agree, type_at};
 use tables::place::{Fault, Place, Table};
@@ -57,7 +55,7 @@ pub struct Placed {
 fn statement_typed(t: &Tables, placed: Placed, row: StatementRow) -> bool
     ensures typed { result ≡ statement_typed (content t.now) placed.class placed.method row }
 {
-    let Some(statement) = Statement::of(row) else {
+    let Ok(statement) = Statement::try_from(row) else {
         return false;
     };
     let mut memory = [UNUSED; 16];
@@ -72,36 +70,13 @@ fn statement_typed(t: &Tables, placed: Placed, row: StatementRow) -> bool
     statements.keeps_rule(&mut scope, statement)
 }
 
-/// The tables of a model, with the method of each statement and the class of each method.
+/// The functions of a model.
 #[derive(Clone, Copy)]
-struct Judge<'a> {
+struct Functions<'a> {
     t: &'a Tables,
-    methods: &'a [Option<Place>],
-    classes: &'a [Option<Place>],
 }
 
-impl Judge<'_> {
-    /// Where the statement in this row stands, if it is placed.
-    fn placed_in(&self, row: usize) -> Option<Placed>
-        ensures placed { result ≡ placed_in (content self.now.t.now) self.now.methods.now self.now.classes.now row }
-    {
-        let Some(place) = holder(self.methods, row) else {
-            return None;
-        };
-        let Some(method) = row_at(self.t.methods.as_slice(), place.row) else {
-            return None;
-        };
-        let Some(owner) = holder(self.classes, place.row) else {
-            return None;
-        };
-        let Some(class) = row_at(self.t.classes.as_slice(), owner.row) else {
-            return None;
-        };
-        Some(Placed { class, method })
-    }
-}
-
-impl RowTest<FunctionRow> for Judge<'_> {
+impl RowTest<FunctionRow> for Functions<'_> {
     ghost broken = { λ s r x. not (function_typed (content s.t.now) x) };
 
     fn breaks(&self, _row: usize, x: FunctionRow) -> bool {
@@ -109,41 +84,76 @@ impl RowTest<FunctionRow> for Judge<'_> {
     }
 }
 
-impl RowTest<StatementRow> for Judge<'_> {
-    ghost broken = { λ s r x. untyped_in (content s.t.now) s.methods.now s.classes.now r x };
+/// The statements of a model, with the method of each statement and the class of each method.
+#[derive(Clone, Copy)]
+struct PlacedStatements<'a> {
+    t: &'a Tables,
+    methods: &'a [Option<Place>],
+    classes: &'a [Option<Place>],
+}
 
-    fn breaks(&self, row: usize, x: StatementRow) -> bool {
-        match self.placed_in(row) {
-            None => false,
-            Some(placed) => !statement_typed(self.t, placed, x),
-        }
+impl PlacedStatements<'_> {
+    /// Where the statement in this row stands, if it is placed.
+    fn placed_in(&self, row: usize) -> Option<Placed>
+        ensures placed { result ≡ placed_in (content self.now.t.now) self.now.methods.now self.now.classes.now row }
+    {
+        let place = holder(self.methods, row)?;
+        let method = self.t.methods.get(place.row).copied()?;
+        let owner = holder(self.classes, place.row)?;
+        let class = self.t.classes.get(owner.row).copied()?;
+        Some(Placed { class, method })
     }
 }
 
+impl RowTest<StatementRow> for PlacedStatements<'_> {
+    ghost broken = { λ s r x. untyped_in (content s.t.now) s.methods.now s.classes.now r x };
+
+    fn breaks(&self, row: usize, x: StatementRow) -> bool {
+        self.placed_in(row)
+            .is_some_and(|placed| !statement_typed(self.t, placed, x))
+    }
+}
+
+/// The first function without a type.
+fn untyped_function(t: &Tables) -> Option<Fault<TypingRule>>
+    ensures first { result ≡ untyped_function (content t.now) }
+{
+    first_row(
+        t.functions.as_slice(),
+        &Functions { t },
+        TypingRule::Function,
+        Table::Functions,
+    )
+}
+
+/// The first placed statement without a type.
+fn untyped_statement(
+    t: &Tables,
+    methods: &[Option<Place>],
+    classes: &[Option<Place>],
+) -> Option<Fault<TypingRule>>
+    ensures first { result ≡ untyped_statement (content t.now) methods.now classes.now }
+{
+    let statements = PlacedStatements {
+        t,
+        methods,
+        classes,
+    };
+    first_row(
+        t.statements.as_slice(),
+        &statements,
+        TypingRule::Statement,
+        Table::Statements,
+    )
+}
+
 /// The first function without a type, or else the first placed statement without one.
+#[tactic(auto, using(crate::proofs::Verdicts::verdict_by))]
 pub fn first_fault(heap: Global, t: &Tables) -> Result<Option<Fault<TypingRule>>, AllocError>
     ensures first { IfOk result (λ v. v ≡ typing_verdict (content t.now)) }
 {
     let methods = statement_methods(heap, t)?;
     let classes = method_classes(heap, t)?;
-    let judge = Judge {
-        t,
-        methods: methods.as_slice(),
-        classes: classes.as_slice(),
-    };
-    let untyped = first_row(
-        t.functions.as_slice(),
-        &judge,
-        TypingRule::Function,
-        Table::Functions,
-    );
-    if untyped.is_some() {
-        return Ok(untyped);
-    }
-    Ok(first_row(
-        t.statements.as_slice(),
-        &judge,
-        TypingRule::Statement,
-        Table::Statements,
-    ))
+    let (methods, classes) = (methods.as_slice(), classes.as_slice());
+    Ok(untyped_function(t).or_else(|| untyped_statement(t, methods, classes)))
 }

@@ -4,7 +4,6 @@
 mod calls;
 mod declared;
 mod expressions;
-mod faults;
 pub mod judge;
 mod patterns;
 pub mod rule;

@@ -1,13 +1,13 @@
 //! Patterns: which types they fit, and what they bind.
 ghost use Rattle.std.specs.Prelude.{◌≡◌, ◌<◌};
+ghost use Rattle.tables.specs.Layout.{content};
 ghost use Rattle.typing.specs.Matching.{Matched};
 ghost use Rattle.typing.specs.Patterns.{pattern_scope, pattern_rule, constructor_scope, child_scope, children_scope, variable_scope};
-ghost use Rattle.typing.specs.Views.{bindings_of, model_of, lower_scopes};
+ghost use Rattle.typing.specs.Views.{lower_scopes};
 
 use crate::declared::{declared, entry_type, null_type, parameters_of};
 use crate::scope::Scope;
 use syntax::nodes::{Node, Parts, node_at};
-use syntax::rows::row_at;
 use syntax::types::{ValueType, agree};
 use tables::rows::{FunctionRow, ListRow};
 use tables::tables::Tables;
@@ -23,23 +23,24 @@ impl Patterns<'_> {
     /// Whether the pattern in this row fits the type; it binds its variables, left to right.
     #[cycle(pattern_fits)]
     pub(crate) fn fits(&self, scope: &mut Scope<'_, '_>, row: u16, to: ValueType) -> bool
-        ensures matched { Matched (pattern_scope (model_of self.now) self.now.function row (bindings_of scope.old) to) (bindings_of scope.old) result (bindings_of scope.new) }
+        ensures matched { Matched (pattern_scope (content self.now.t.now) self.now.function row scope.old to) scope.old result scope.new }
     {
-        match node_at(self.t, row) {
-            None => false,
-            Some(node) => self.node_fits(scope, row, node, to),
-        }
+        // Not `is_some_and`: a closure in a cycle of calls, or one that changes the scope, tells the proof nothing; so below.
+        let Some(node) = node_at(self.t, row) else {
+            return false;
+        };
+        self.node_fits(scope, row, node, to)
     }
 
     /// The same of a node, whose children stand below this row.
     #[cycle(pattern_fits)]
     fn node_fits(&self, scope: &mut Scope<'_, '_>, row: u16, node: Node, to: ValueType) -> bool
-        ensures matched { Matched (pattern_rule (model_of self.now) self.now.function (lower_scopes self.now row) (bindings_of scope.old) node to) (bindings_of scope.old) result (bindings_of scope.new) }
+        ensures matched { Matched (pattern_rule (content self.now.t.now) self.now.function (lower_scopes self.now row) scope.old node to) scope.old result scope.new }
     {
         match node {
-            Node::Unit => to.same(ValueType::Unit),
-            Node::False | Node::True => to.same(ValueType::Bool),
-            Node::Int(_) => to.same(ValueType::Int),
+            Node::Unit => to == ValueType::Unit,
+            Node::False | Node::True => to == ValueType::Bool,
+            Node::Int(_) => to == ValueType::Int,
             Node::Null(of) => agree(null_type(self.t, of), Some(to)),
             Node::Constructor(constructor, children) => {
                 self.constructor_fits(scope, row, constructor, children, to)
@@ -51,7 +52,7 @@ impl Patterns<'_> {
     }
 
     fn variable_fits(&self, scope: &mut Scope<'_, '_>, slot: u16, to: ValueType) -> bool
-        ensures matched { Matched (variable_scope (model_of self.now) self.now.function (bindings_of scope.old) slot to) (bindings_of scope.old) result (bindings_of scope.new) }
+        ensures matched { Matched (variable_scope (content self.now.t.now) self.now.function scope.old slot to) scope.old result scope.new }
     {
         let function = self.function;
         let of = declared(self.t, function.slots_first, function.slots, slot);
@@ -71,16 +72,14 @@ impl Patterns<'_> {
         children: Parts,
         to: ValueType,
     ) -> bool
-        ensures matched { Matched (constructor_scope (model_of self.now) self.now.function (lower_scopes self.now row) (bindings_of scope.old) constructor children to) (bindings_of scope.old) result (bindings_of scope.new) }
+        ensures matched { Matched (constructor_scope (content self.now.t.now) self.now.function (lower_scopes self.now row) scope.old constructor children to) scope.old result scope.new }
     {
-        let Some(constructor) = row_at(self.t.constructors.as_slice(), constructor as usize) else {
+        let Some(constructor) = self.t.constructors.get(constructor as usize).copied() else {
             return false;
         };
-        if !to.same(ValueType::Data(constructor.number)) {
-            return false;
-        }
         let parameters = parameters_of(self.t, constructor);
-        self.children_fit(scope, row, children.as_slice(), parameters)
+        to == ValueType::Data(constructor.number)
+            && self.children_fit(scope, row, children.as_slice(), parameters)
     }
 
     /// Whether the children fit the parameters, one for one.
@@ -92,13 +91,13 @@ impl Patterns<'_> {
         children: &[u16],
         parameters: &[ListRow],
     ) -> bool
-        ensures matched { Matched (children_scope (model_of self.now) self.now.function (lower_scopes self.now row) (bindings_of scope.old) children.now parameters.now) (bindings_of scope.old) result (bindings_of scope.new) }
+        ensures matched { Matched (children_scope (content self.now.t.now) self.now.function (lower_scopes self.now row) scope.old children.now parameters.now) scope.old result scope.new }
     {
         if children.len() != parameters.len() {
             return false;
         }
-        for i in 0..children.len() {
-            if !self.child_fits(scope, row, children[i], parameters[i]) {
+        for (child, parameter) in children.iter().zip(parameters) {
+            if !self.child_fits(scope, row, *child, *parameter) {
                 return false;
             }
         }
@@ -113,11 +112,11 @@ impl Patterns<'_> {
         child: u16,
         parameter: ListRow,
     ) -> bool
-        ensures matched { Matched (child_scope (model_of self.now) self.now.function (lower_scopes self.now row) (bindings_of scope.old) child parameter) (bindings_of scope.old) result (bindings_of scope.new) }
+        ensures matched { Matched (child_scope (content self.now.t.now) self.now.function (lower_scopes self.now row) scope.old child parameter) scope.old result scope.new }
     {
-        match entry_type(self.t, parameter) {
-            Some(to) if child < row => self.fits(scope, child, to),
-            _ => false,
-        }
+        let Some(to) = entry_type(self.t, parameter) else {
+            return false;
+        };
+        child < row && self.fits(scope, child, to)
     }
 }

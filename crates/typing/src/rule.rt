@@ -1,6 +1,8 @@
 ghost use Rattle.std.specs.Prelude.{◌≡◌};
 ghost use Rattle.typing.specs.Typing.{typing_number};
 
+use tables::place::Rule;
+
 /// The typing rules.
 #[derive(Clone, Copy, PartialEq, Eq, Debug)]
 pub enum TypingRule {
@@ -10,11 +12,10 @@ pub enum TypingRule {
     Statement,
 }
 
-impl TypingRule {
-    /// The number under which a breach is reported.
-    pub fn number(self) -> u8
-        ensures number { result ≡ typing_number self }
-    {
+impl Rule for TypingRule {
+    ghost number = { typing_number };
+
+    fn number(self) -> u8 {
         match self {
             TypingRule::Function => 7,
             TypingRule::Statement => 8,

@@ -1,8 +1,7 @@
 //! The scopes of functions and of statements.
-ghost use Rattle.std.specs.Prelude.{◌≡◌, ◌+◌, ◌⊎◌, []};
+ghost use Rattle.std.specs.Prelude.{◌≡◌, ◌+◌, ◌==◌, ◌||◌, IsTrue, []};
 ghost use Rattle.tables.specs.Layout.{content};
 ghost use Rattle.typing.specs.Scopes.{declared, bind_typed, slots_from, function_scope, method_scope};
-ghost use Rattle.typing.specs.Views.{bindings_of};
 
 use crate::declared::declared;
 use crate::scope::Scope;
@@ -18,12 +17,12 @@ struct SlotList {
     first: u16,
     count: u16,
     offset: u16,
+    ghost numbered: { IsTrue (offset == 0 || offset == 128) },
 }
 
 /// Binds the slot `k` of the list, if it is there.
 fn bind_slot(t: &Tables, scope: &mut Scope<'_, '_>, list: SlotList, k: u16)
-    requires numbered { (list.offset ≡ 0) ⊎ (list.offset ≡ 128) }
-    ensures bound { bindings_of scope.new ≡ bind_typed (list.offset + k) (declared (content t.now) list.first list.count k) (bindings_of scope.old) }
+    ensures bound { scope.new ≡ bind_typed (list.offset + k) (declared (content t.now) list.first list.count k) scope.old }
 {
     if let Some(to) = declared(t, list.first, list.count, k) {
         scope.bind(list.offset + k, to);
@@ -32,8 +31,7 @@ fn bind_slot(t: &Tables, scope: &mut Scope<'_, '_>, list: SlotList, k: u16)
 
 /// Binds the first `n` slots of the list.
 fn bind_slots(t: &Tables, scope: &mut Scope<'_, '_>, list: SlotList, n: u16)
-    requires numbered { (list.offset ≡ 0) ⊎ (list.offset ≡ 128) }
-    ensures bound { bindings_of scope.new ≡ slots_from list.offset (declared (content t.now) list.first list.count) n (bindings_of scope.old) }
+    ensures bound { scope.new ≡ slots_from list.offset (declared (content t.now) list.first list.count) n scope.old }
 {
     for k in 0..n {
         bind_slot(t, scope, list, k);
@@ -42,8 +40,8 @@ fn bind_slots(t: &Tables, scope: &mut Scope<'_, '_>, list: SlotList, n: u16)
 
 /// Binds the parameters of a function, for its body.
 pub(crate) fn bind_parameters(t: &Tables, scope: &mut Scope<'_, '_>, function: FunctionRow)
-    requires empty { bindings_of scope.old ≡ [] }
-    ensures bound { bindings_of scope.new ≡ function_scope (content t.now) function }
+    requires empty { scope.old ≡ [] }
+    ensures bound { scope.new ≡ function_scope (content t.now) function }
 {
     let list = SlotList {
         first: function.slots_first,
@@ -55,8 +53,8 @@ pub(crate) fn bind_parameters(t: &Tables, scope: &mut Scope<'_, '_>, function: F
 
 /// Binds all slots of a method and all fields of its class, for the method's statements.
 pub(crate) fn bind_method(t: &Tables, scope: &mut Scope<'_, '_>, class: ClassRow, method: MethodRow)
-    requires empty { bindings_of scope.old ≡ [] }
-    ensures bound { bindings_of scope.new ≡ method_scope (content t.now) class method }
+    requires empty { scope.old ≡ [] }
+    ensures bound { scope.new ≡ method_scope (content t.now) class method }
 {
     let locals = SlotList {
         first: method.slots_first,

@@ -1,11 +1,11 @@
 //! Statements: whether they keep the rule of their kind.
 ghost use Rattle.std.specs.Prelude.{◌≡◌};
+ghost use Rattle.tables.specs.Layout.{content};
 ghost use Rattle.mapping.specs.Bindings.{lookup};
-ghost use Rattle.syntax.specs.Rows.{passes};
+ghost use Rattle.rules.specs.Words.{passes};
 ghost use Rattle.typing.specs.declared.within.Within.TheVariants.{Class};
 ghost use Rattle.typing.specs.Giving.{Gives};
 ghost use Rattle.typing.specs.Statements.{awaitable, all_awaitable, type_here, arguments_here, future_value, goes_on, takes, takes_object, reached, new_rule, call_rule, statement_rule};
-ghost use Rattle.typing.specs.Views.{bindings_of, rows_of};
 
 use crate::calls::{
     Heading, awaitable, class_parameters, given_by, heading_parameters, method_named,
@@ -15,7 +15,6 @@ use crate::declared::lists_type;
 use crate::expressions::Expressions;
 use crate::scope::Scope;
 use crate::within::Within;
-use syntax::rows::row_at;
 use syntax::statements::{Call, Creation, Statement};
 use syntax::types::{ValueType, agree, type_at};
 use tables::rows::{ClassRow, ListRow, MethodRow};
@@ -32,7 +31,7 @@ pub struct Statements<'a> {
 impl<'a> Statements<'a> {
     /// Whether the statement keeps the rule of its kind.
     pub(crate) fn keeps_rule(&self, scope: &mut Scope<'_, '_>, statement: Statement) -> bool
-        ensures gives { Gives (statement_rule (rows_of self.now) self.now.class (bindings_of scope.old) self.now.method statement) (bindings_of scope.old) result (bindings_of scope.new) }
+        ensures gives { Gives (statement_rule (content self.now.t.now) self.now.class scope.old self.now.method statement) scope.old result scope.new }
     {
         match statement {
             Statement::Skip { next } | Statement::Suspend { next } => self.goes_on(next),
@@ -86,7 +85,7 @@ impl<'a> Statements<'a> {
 
     /// The type of an expression of the statement.
     fn type_here(&self, scope: &mut Scope<'_, '_>, row: u16) -> Option<ValueType>
-        ensures gives { Gives (type_here (rows_of self.now) self.now.class (bindings_of scope.old) row) (bindings_of scope.old) result (bindings_of scope.new) }
+        ensures gives { Gives (type_here (content self.now.t.now) self.now.class scope.old row) scope.old result scope.new }
     {
         self.expressions().type_of(scope, row)
     }
@@ -98,7 +97,7 @@ impl<'a> Statements<'a> {
         arguments: &[u16],
         parameters: &[ListRow],
     ) -> bool
-        ensures gives { Gives (arguments_here (rows_of self.now) self.now.class (bindings_of scope.old) arguments.now parameters.now) (bindings_of scope.old) result (bindings_of scope.new) }
+        ensures gives { Gives (arguments_here (content self.now.t.now) self.now.class scope.old arguments.now parameters.now) scope.old result scope.new }
     {
         self.expressions().all_fit(scope, arguments, parameters)
     }
@@ -113,97 +112,81 @@ impl<'a> Statements<'a> {
 
     /// The type of the value of a future.
     fn future_value(&self, scope: &mut Scope<'_, '_>, future: u16) -> Option<ValueType>
-        ensures gives { Gives (future_value (rows_of self.now) self.now.class (bindings_of scope.old) future) (bindings_of scope.old) result (bindings_of scope.new) }
+        ensures gives { Gives (future_value (content self.now.t.now) self.now.class scope.old future) scope.old result scope.new }
     {
-        match self.type_here(scope, future) {
-            None => None,
-            Some(of) => value_of(self.t, of),
-        }
+        let of = self.type_here(scope, future)?;
+        value_of(self.t, of)
     }
 
     /// What a call reaches.
     fn callee(&self, scope: &mut Scope<'_, '_>, object: Option<u16>, name: u16) -> Option<Heading>
-        ensures gives { Gives (reached (rows_of self.now) self.now.class (bindings_of scope.old) object name) (bindings_of scope.old) result (bindings_of scope.new) }
+        ensures gives { Gives (reached (content self.now.t.now) self.now.class scope.old object name) scope.old result scope.new }
     {
         let Some(object) = object else {
             return method_named(self.t, self.class, name);
         };
-        match self.type_here(scope, object) {
-            None => None,
-            Some(of) => signature_named(self.t, of, name),
-        }
+        let of = self.type_here(scope, object)?;
+        signature_named(self.t, of, name)
     }
 
     fn new_fits(&self, scope: &mut Scope<'_, '_>, target: Option<u16>, creation: Creation) -> bool
-        ensures gives { Gives (new_rule (rows_of self.now) self.now.class (bindings_of scope.old) target creation) (bindings_of scope.old) result (bindings_of scope.new) }
+        ensures gives { Gives (new_rule (content self.now.t.now) self.now.class scope.old target creation) scope.old result scope.new }
     {
-        match row_at(self.t.classes.as_slice(), creation.class as usize) {
-            None => false,
-            Some(class) => {
-                let parameters = class_parameters(self.t, class);
-                self.arguments_here(scope, creation.arguments.as_slice(), parameters)
-                    && self.takes_object(scope, target, class)
-            }
-        }
+        // Not `is_some_and`: a closure that changes the scope tells the proof nothing; so below.
+        let Some(class) = self.t.classes.get(creation.class as usize).copied() else {
+            return false;
+        };
+        let parameters = class_parameters(self.t, class);
+        self.arguments_here(scope, creation.arguments.as_slice(), parameters)
+            && self.takes_object(scope, target, class)
     }
 
     fn call_fits(&self, scope: &mut Scope<'_, '_>, target: Option<u16>, call: Call) -> bool
-        ensures gives { Gives (call_rule (rows_of self.now) self.now.class (bindings_of scope.old) target call) (bindings_of scope.old) result (bindings_of scope.new) }
+        ensures gives { Gives (call_rule (content self.now.t.now) self.now.class scope.old target call) scope.old result scope.new }
     {
-        match self.callee(scope, call.object, call.name) {
-            None => false,
-            Some(heading) => {
-                let parameters = heading_parameters(self.t, heading);
-                let of = given_by(self.t, call.manner, heading.result);
-                self.arguments_here(scope, call.arguments.as_slice(), parameters)
-                    && takes(scope, target, of)
-            }
-        }
+        let Some(heading) = self.callee(scope, call.object, call.name) else {
+            return false;
+        };
+        let parameters = heading_parameters(self.t, heading);
+        let of = given_by(self.t, call.manner, heading.result);
+        self.arguments_here(scope, call.arguments.as_slice(), parameters)
+            && takes(scope, target, of)
     }
 
     /// Whether the target, if any, is of an interface that the class lists.
     fn takes_object(&self, scope: &Scope<'_, '_>, target: Option<u16>, class: ClassRow) -> bool
-        ensures takes { result ≡ takes_object (rows_of self.now) (bindings_of scope.now) target class }
+        ensures takes { result ≡ takes_object (content self.now.t.now) scope.now target class }
     {
         let Some(slot) = target else {
             return true;
         };
-        match scope.find(slot) {
-            None => false,
-            Some(of) => lists_type(self.t, class, of),
-        }
+        scope
+            .find(slot)
+            .is_some_and(|of| lists_type(self.t, class, of))
     }
 }
 
 /// Whether there is such a type, and the target, if any, has it too.
 fn takes(scope: &Scope<'_, '_>, target: Option<u16>, of: Option<ValueType>) -> bool
-    ensures takes { result ≡ takes (bindings_of scope.now) target of }
+    ensures takes { result ≡ takes scope.now target of }
 {
-    match (target, of) {
-        (_, None) => false,
-        (None, Some(_)) => true,
-        (Some(slot), Some(of)) => agree(scope.find(slot), Some(of)),
-    }
+    // Not `map_or`: of a closure that holds the scope the proof did not learn what it answers.
+    let Some(slot) = target else {
+        return of.is_some();
+    };
+    agree(scope.find(slot), of)
 }
 
 /// Whether an await may name the slot.
 fn slot_awaitable(scope: &Scope<'_, '_>, slot: u16) -> bool
-    ensures awaitable { result ≡ passes (lookup slot (bindings_of scope.now)) awaitable }
+    ensures awaitable { result ≡ passes (lookup slot scope.now) awaitable }
 {
-    match scope.find(slot) {
-        None => false,
-        Some(of) => awaitable(of),
-    }
+    scope.find(slot).is_some_and(awaitable)
 }
 
 /// Whether an await may name the slots.
 fn awaited(scope: &Scope<'_, '_>, slots: &[u16]) -> bool
-    ensures awaitable { result ≡ all_awaitable (bindings_of scope.now) slots.now }
+    ensures awaitable { result ≡ all_awaitable scope.now slots.now }
 {
-    for slot in slots {
-        if !slot_awaitable(scope, *slot) {
-            return false;
-        }
-    }
-    true
+    slots.iter().all(|slot| slot_awaitable(scope, *slot))
 }

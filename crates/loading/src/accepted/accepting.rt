@@ -3,32 +3,17 @@ ghost use Rattle.std.specs.Prelude.{◌≡◌, None};
 ghost use Rattle.tables.specs.Layout.{content};
 ghost use Rattle.typing.specs.Typing.{typing_verdict};
 ghost use Rattle.loading.specs.Accepting.{ChecksTypes, JudgesTypes};
-ghost use Rattle.loading.specs.declared.accepted.accepting.TypingError.TheVariants.{NoMemory};
 
 use crate::accepted::AcceptedModel;
 use model::model::ReadModel;
-use std::alloc::{AllocError, Global};
-use tables::place::Fault;
+use std::alloc::Global;
+use tables::check::CheckError;
 use tables::tables::Tables;
 use typing::judge::first_fault;
 use typing::rule::TypingRule;
 
-/// Why a read model is not accepted.
-#[derive(Clone, Copy)]
-pub enum TypingError {
-    /// There is no memory for the check.
-    NoMemory,
-    /// The model breaks a typing rule.
-    Refused(Fault<TypingRule>),
-}
-
-impl From<AllocError> for TypingError {
-    ghost from_gives = { λ _ r. r ≡ NoMemory };
-
-    fn from(_e: AllocError) -> TypingError {
-        TypingError::NoMemory
-    }
-}
+/// Why a read model is not accepted: there is no memory for the check, or it breaks a typing rule.
+pub type TypingError = CheckError<TypingRule>;
 
 /// Whether every function and every placed statement of the model has a type.
 pub fn check_types(heap: Global, model: &ReadModel) -> Result<(), TypingError>
@@ -43,6 +28,7 @@ pub fn check_types(heap: Global, model: &ReadModel) -> Result<(), TypingError>
 
 impl AcceptedModel {
     /// The read model as an accepted one: for a model that passed the check.
+    #[tactic(auto, using(crate::proofs::Judging::types_kept))]
     pub fn new(model: ReadModel) -> AcceptedModel
         requires checked { typing_verdict (content model.tables) ≡ None }
         ensures model { result.model ≡ model }

@@ -1,26 +1,14 @@
 //! Making a mapping, and its operations: length, find, bind and cut.
-ghost use Rattle.std.specs.Prelude.{◌≡◌, [], ◌∷◌, reverse, length, slice_set, is_ok, if◌then◌else◌, nat_lt};
+ghost use Rattle.std.specs.Prelude.{◌≡◌, [], ◌∷◌, length, slice_set, is_ok, if◌then◌else◌, nat_lt};
 ghost use Rattle.mapping.specs.Bindings.{lookup, bound, memory, capacity, since, oldest, blanked};
 
 use crate::mapping::{Binding, Blank, Mapping};
 
 /// There is no memory left for one binding more.
-#[derive(Clone, Copy)]
+#[derive(Clone, Copy, PartialEq, Eq, Debug)]
 pub struct Full;
 
-/// The newest entry of the slot among these bindings, the oldest first, but for the first `earlier` of them.
-fn newest<E: Blank>(bindings: &[Binding<E>], earlier: usize, slot: u16) -> Option<E>
-    ensures newest { result ≡ lookup slot (since earlier (reverse bindings.now)) }
-{
-    for place in (earlier..bindings.len()).rev() {
-        let binding = bindings[place];
-        if binding.slot == slot {
-            return Some(binding.entry);
-        }
-    }
-    None
-}
-
+#[tactic(auto, using(crate::proofs::Bindings::in_use), unfolding(crate::specs::Bindings::bound, crate::specs::Bindings::memory, crate::specs::Bindings::capacity))]
 impl<'a, E: Blank> Mapping<'a, E> {
     /// The mapping that binds nothing, over the lent bindings.
     pub fn new(bindings: &'a mut [Binding<E>]) -> Mapping<'a, E>
@@ -42,7 +30,12 @@ impl<'a, E: Blank> Mapping<'a, E> {
     pub fn find(&self, earlier: usize, slot: u16) -> Option<E>
         ensures newest { result ≡ lookup slot (since earlier (bound self.now)) }
     {
-        newest(&self.bindings[..self.count], earlier, slot)
+        self.bindings
+            .get(earlier..self.count)?
+            .iter()
+            .rev()
+            .find(|b| b.slot == slot)
+            .map(|b| b.entry)
     }
 
     /// Binds the entry to the slot; where the memory is full, nothing changes.
@@ -55,6 +48,7 @@ impl<'a, E: Blank> Mapping<'a, E> {
         if self.count >= self.bindings.len() {
             return Err(Full);
         }
+        // by its index: the contract of `get_mut` does not say what the slice holds after a write
         self.bindings[self.count] = Binding { slot, entry };
         self.count += 1;
         Ok(())
@@ -66,12 +60,12 @@ impl<'a, E: Blank> Mapping<'a, E> {
         ensures blank { memory self.new ≡ blanked E.Blank.blank earlier (length (bound self.old)) (memory self.old) }
         ensures capacity { capacity self.new ≡ capacity self.old }
     {
-        while self.count > earlier {
-            self.count -= 1;
-            self.bindings[self.count] = Binding {
-                slot: 0,
-                entry: E::blank(),
-            };
-        }
+        let kept = earlier.min(self.count);
+        // not `fill`, which asks for a clone that cannot fail: an entry's `Copy` does not promise that
+        self.bindings[kept..self.count].fill_with(|| Binding {
+            slot: 0,
+            entry: E::blank(),
+        });
+        self.count = kept;
     }
 }

@@ -17,7 +17,7 @@ const LARGEST: usize = 43_477;
 fn byte(bytes: &[u8], at: usize) -> u8
     ensures byte { result ≡ slice_index bytes.now at }
 {
-    if at < bytes.len() { bytes[at] } else { 0 }
+    bytes.get(at).copied().unwrap_or(0)
 }
 
 fn stated_length(bytes: &[u8]) -> usize

@@ -14,17 +14,14 @@ use tables::tables::Tables;
 fn first_fault(heap: Global, t: &Tables) -> Result<Option<Fault<TableRule>>, AllocError>
     ensures first { IfOk result (λ v. v ≡ table_faults (content t.now)) }
 {
-    let missing = range::first_fault(t);
-    if missing.is_some() {
-        return Ok(missing);
+    if let Some(missing) = range::first_fault(t) {
+        return Ok(Some(missing));
     }
-    let misplaced = placement::first_fault(heap, t)?;
-    if misplaced.is_some() {
-        return Ok(misplaced);
+    if let Some(misplaced) = placement::first_fault(heap, t)? {
+        return Ok(Some(misplaced));
     }
-    let misshapen = shape::shape::first_fault(heap, t)?;
-    if misshapen.is_some() {
-        return Ok(misshapen);
+    if let Some(misshapen) = shape::shape::first_fault(heap, t)? {
+        return Ok(Some(misshapen));
     }
     Ok(shape::methods::first_fault(t))
 }

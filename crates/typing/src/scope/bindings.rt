@@ -3,7 +3,6 @@ ghost use Rattle.std.specs.Prelude.{◌≡◌, ◌≤◌, true, [], length};
 ghost use Rattle.mapping.specs.Bindings.{lookup, oldest, bound, capacity};
 ghost use Rattle.typing.specs.Room.{is_slot};
 ghost use Rattle.typing.specs.Scopes.{bind_free};
-ghost use Rattle.typing.specs.Views.{bindings_of};
 
 use crate::scope::Scope;
 use mapping::mapping::{Binding, Mapping};
@@ -11,24 +10,25 @@ use syntax::types::ValueType;
 
 impl<'a, 'b> Scope<'a, 'b> {
     /// The scope that binds nothing, over the lent bindings.
+    #[tactic(auto, using(crate::proofs::Room::free_all))]
     pub(crate) fn new(mapping: &'a mut Mapping<'b, ValueType>) -> Scope<'a, 'b>
         requires empty { bound mapping.old ≡ [] }
         requires memory { 16 ≤ capacity mapping.old }
-        ensures empty { bindings_of result ≡ [] }
+        ensures empty { result ≡ [] }
     {
         Scope { mapping }
     }
 
     /// How many slots are bound.
     pub(crate) fn length(&self) -> usize
-        ensures length { result ≡ length (bindings_of self.now) }
+        ensures length { result ≡ length self.now }
     {
         self.mapping.length()
     }
 
     /// The type of the slot, if it is bound.
     pub(crate) fn find(&self, slot: u16) -> Option<ValueType>
-        ensures found { result ≡ lookup slot (bindings_of self.now) }
+        ensures found { result ≡ lookup slot self.now }
     {
         self.mapping.find(0, slot)
     }
@@ -36,7 +36,7 @@ impl<'a, 'b> Scope<'a, 'b> {
     /// Binds the slot, unless it is bound already.
     pub(crate) fn bind(&mut self, slot: u16, to: ValueType)
         requires slot { is_slot slot ≡ true }
-        ensures bound { bindings_of self.new ≡ bind_free slot to (bindings_of self.old) }
+        ensures bound { self.new ≡ bind_free slot to self.old }
     {
         if self.find(slot).is_some() {
             return;
@@ -45,8 +45,9 @@ impl<'a, 'b> Scope<'a, 'b> {
     }
 
     /// Cuts back to the first `earlier` bindings.
+    #[tactic(auto, using(crate::proofs::Room::once_cut))]
     pub(crate) fn cut(&mut self, earlier: usize)
-        ensures oldest { bindings_of self.new ≡ oldest earlier (bindings_of self.old) }
+        ensures oldest { self.new ≡ oldest earlier self.old }
     {
         self.mapping.cut(earlier);
     }

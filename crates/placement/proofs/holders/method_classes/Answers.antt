@@ -1,7 +1,7 @@
-use Rattle.std.proofs.Common.{◌∙◌}
+use Rattle.std.proofs.Common.{rules}
 use Rattle.tables.specs.Layout.{content}
 use Rattle.placement.proofs.Held.{classes_hold}
 use Rattle.placement.proofs.holders.method_classes.Goals as goal
 
 pub returns : goal.returns
-returns c = record { classes = c.in_ok-classes.ensures.classes ∙ classes_hold (content c.args.t.now) }
+returns c = record { classes = rw (← classes_hold (content c.args.t.now)) (search rules) }

@@ -1,6 +1,6 @@
 use Rattle.std.proofs.Common.{Some, None, Ok, Err, sym, ◌∙◌}
 use Rattle.std.proofs.lemmas.Result.{err_from_is_err_and}
-use Rattle.tables.specs.declared.read.ReadError.TheVariants.{Refused}
+use Rattle.tables.specs.declared.check.CheckError.TheVariants.{Refused}
 use Rattle.tables.specs.Layout.{content}
 use Rattle.model.specs.Reading.{Checks}
 use Rattle.model.proofs.Decides.{checked, unread, judge_bytes}

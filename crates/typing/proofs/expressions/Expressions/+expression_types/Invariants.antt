@@ -1,6 +1,7 @@
-use Rattle.std.proofs.Common.{◌≡◌, ◌+◌, ◌*◌, drop}
+use Rattle.std.proofs.Common.{◌≡◌, ◌+◌, ◌*◌, length, drop}
+use Rattle.tables.specs.Layout.{content}
 use Rattle.typing.specs.Expressions.{all_have, arguments_fit}
-use Rattle.typing.specs.Views.{bindings_of, tables_of, lower_types}
+use Rattle.typing.specs.Views.{lower_types}
 use Rattle.typing.proofs.expressions.Expressions.+expression_types.Given as goal
 
 -- the row falls from an expression to its children; within a row the calls go in this order
@@ -46,13 +47,13 @@ decreases-lower_type l = 16 * l.row + 1
 -- the branches that are left have the type exactly if all have it, and the scope is as it was
 abbrev pub invariant-all_have-loop-branch : goal.invariant-all_have-loop-branch
 invariant-all_have-loop-branch l =
-    (all_have (tables_of l.self) l.self.within (lower_types l.self l.row) l.case.function (bindings_of l.initial.scope) l.case.to l.common (drop l.branch-index l.branches)
-    ≡ all_have (tables_of l.self) l.self.within (lower_types l.self l.row) l.case.function (bindings_of l.initial.scope) l.case.to l.common l.branches)
-    × (bindings_of l.scope ≡ bindings_of l.initial.scope)
+    (all_have (content l.self.t.now) l.self.within (lower_types l.self l.row) l.case.function l.initial.scope l.case.to l.common (drop l.branch-index l.branches)
+    ≡ all_have (content l.self.t.now) l.self.within (lower_types l.self l.row) l.case.function l.initial.scope l.case.to l.common l.branches)
+    × (l.scope ≡ l.initial.scope)
 
 -- the arguments that are left fit exactly if all do, and the scope is as it was
-abbrev pub invariant-arguments_fit-loop-i : goal.invariant-arguments_fit-loop-i
-invariant-arguments_fit-loop-i l =
-    (arguments_fit (tables_of l.self) l.self.within (lower_types l.self l.row) (bindings_of l.initial.scope) (drop l.i l.arguments) (drop l.i l.parameters)
-    ≡ arguments_fit (tables_of l.self) l.self.within (lower_types l.self l.row) (bindings_of l.initial.scope) l.arguments l.parameters)
-    × (bindings_of l.scope ≡ bindings_of l.initial.scope)
+abbrev pub invariant-arguments_fit-loop-argument : goal.invariant-arguments_fit-loop-argument
+invariant-arguments_fit-loop-argument l =
+    (arguments_fit (content l.self.t.now) l.self.within (lower_types l.self l.row) l.initial.scope (drop (length l.yielded) l.arguments) (drop (length l.yielded) l.parameters)
+    ≡ arguments_fit (content l.self.t.now) l.self.within (lower_types l.self l.row) l.initial.scope l.arguments l.parameters)
+    × (l.scope ≡ l.initial.scope)

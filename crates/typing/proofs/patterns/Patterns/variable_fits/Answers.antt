@@ -1,4 +1,4 @@
-use Rattle.typing.specs.Views.{bindings_of, model_of}
+use Rattle.tables.specs.Layout.{content}
 use Rattle.typing.proofs.Matches.{variable_fits}
 use Rattle.typing.proofs.patterns.Patterns.variable_fits.Goals as goal
 
@@ -6,6 +6,6 @@ pub returns : goal.returns
 returns c =
     let p = c.args.self.now in
     record {
-      matched = variable_fits (model_of p) p.function (bindings_of c.args.scope.now) (bindings_of c.bind.new.self) c.args.slot c.args.to
+      matched = variable_fits (content p.t.now) p.function c.args.scope.now c.bind.new.self c.args.slot c.args.to
           (rw c.declared-of.ensures.declared at c.if-not-agree.ensures.agree) c.bind.ensures.bound;
     }

@@ -1,23 +1,27 @@
-use Rattle.std.proofs.Common.{is_ok}
-use Rattle.mapping.specs.Bindings.{bound, capacity}
+use Rattle.std.proofs.Common.{◌≡◌, ◌∷◌, false, is_ok, is_some, sym, ap, ◌∙◌}
+use Rattle.mapping.specs.Bindings.{lookup, bound, capacity}
+use Rattle.typing.specs.Scopes.{Bindings}
 use Rattle.typing.proofs.Room.{once_bound, bind_free_lem, not_found}
 use Rattle.typing.proofs.scope.Scope.bind.Goals as goal
 
+-- the slot that was looked for is free in the bindings inside
+free_inside : (c : goal.After-bind) → is_some (lookup c.args.slot (bound c.self.inside.mapping.now)) ≡ false
+free_inside c =
+    let found = c.find.ensures.found ∙ ap (λ (s : Bindings). lookup c.args.slot s) (sym c.self.view_is) in
+    not_found c.args.slot (bound c.self.inside.mapping.now) c.find.result found c.if-is_some.ensures
+
+-- so it is bound there
+made : (c : goal.After-bind) → bound c.bind.new.self ≡ record { slot = c.args.slot; entry = c.args.to } ∷ bound c.self.inside.mapping.now
+made c =
+    let mapping = c.self.inside.mapping.now in
+    bind_free_lem c.args.slot c.args.to (bound mapping) (bound c.bind.new.self) (is_ok c.bind.result) (capacity mapping)
+    c.requires.slot (free_inside c) c.self.invariant.0 c.self.invariant.1 c.bind.ensures.full c.bind.ensures.newest
+
 pub invariant_of-self : goal.invariant_of-self
-invariant_of-self c =
-    let scope = c.args.self.now in
-    let s = bound scope.mapping.now in
-    let none = not_found c.args.slot s c.find.result c.find.ensures.found c.if-is_some.ensures in
-    let made = bind_free_lem c.args.slot c.args.to s (bound c.bind.new.self) (is_ok c.bind.result) (capacity scope.mapping.now)
-    c.requires.slot none scope.once scope.memory c.bind.ensures.full c.bind.ensures.newest in
-    record { once = rw made (once_bound _ s c.requires.slot none scope.once); memory = rw c.bind.ensures.capacity scope.memory }
+invariant_of-self c = (
+  rw (made c) (once_bound _ (bound c.self.inside.mapping.now) c.requires.slot (free_inside c) c.self.invariant.0),
+  rw c.bind.ensures.capacity c.self.invariant.1,
+)
 
 pub returns : goal.returns
-returns c =
-    let scope = c.args.self.now in
-    let s = bound scope.mapping.now in
-    let none = not_found c.args.slot s c.find.result c.find.ensures.found c.if-is_some.ensures in
-    record {
-      bound = rw none (bind_free_lem c.args.slot c.args.to s (bound c.bind.new.self) (is_ok c.bind.result) (capacity scope.mapping.now)
-          c.requires.slot none scope.once scope.memory c.bind.ensures.full c.bind.ensures.newest);
-    }
+returns c = record { bound = rw (← c.self.view_is, free_inside c) (made c) }

@@ -1,7 +1,0 @@
-use Rattle.std.proofs.Common.{◌∙◌}
-use Rattle.tables.specs.Layout.{content}
-use Rattle.range.proofs.Tables.{rule_fault_lem}
-use Rattle.range.proofs.first_fault.Goals as goal
-
-pub returns : goal.returns
-returns c = record { first = c.first_table.ensures.first ∙ rule_fault_lem (content c.args.t.now) }
