@@ -111,6 +111,7 @@ impl Draft {
     {
         match item {
             Item::Numbers { times, number } => {
+                // the number is written so many times
                 for _ in 0..times {
                     self.rest.extend_from_slice(&number.to_be_bytes())?;
                 }

@@ -20,6 +20,7 @@ pub enum LoadFault {
 
 impl LoadFault {
     /// The number of the rule that is broken.
+    // `number` and no conversion to `u8`, which would not say which number it is
     pub fn number(self) -> u8
         ensures number { result ≡ fault_number self }
     {
@@ -51,6 +52,7 @@ impl LoadFault {
 }
 
 /// Why a model is not loaded.
+// No `CheckError`: the fault says from which of two checks it comes, each with rules of its own kind.
 #[derive(Clone, Copy)]
 pub enum LoadError {
     /// There is no memory for the model.

@@ -20,6 +20,7 @@ pub struct Binding<E> {
 /// The bindings in a lent slice, of which the first `count` are in use, the oldest first.
 #[derive(Drop)]
 pub struct Mapping<'a, E> {
+    // a slice with a count, and no vector: the memory is lent, so that a bind never allocates
     bindings: &'a mut [Binding<E>],
     count: usize,
     ghost fits: { count ≤ length bindings.now },

@@ -7,6 +7,7 @@ pub mod absorbing;
 #[derive(Drop)]
 pub struct Input {
     kept: Vec<u8>,
+    // how long the input is, and not how much of it is kept
     total: usize,
     ghost few: { vec_len kept ≤ 43477 },
 }

@@ -45,6 +45,7 @@ fn claim_range(held: &mut [Option<Place>], by: Place, first: usize, count: usize
     requires fits { first + count < 2 ^ 64 }
     ensures held { held.new ≡ claim_range by held.old first count }
 {
+    // by the item's number: of what is written through `iter_mut` nothing is known afterwards
     for item in first..first + count {
         claim(held, by, item);
     }
@@ -80,6 +81,7 @@ pub fn run_length(branches: &[BranchRow]) -> usize
 }
 
 /// What rows claim.
+// A trait and no closure: each closure would need a proof of its own that it claims what its definition says.
 trait Claims<R> {
     ghost claims: { Self → List (Option Place) → ℕ → R → List (Option Place) };
 

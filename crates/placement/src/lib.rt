@@ -29,24 +29,17 @@ fn elsewhere(by: Place, holder: Option<Place>) -> bool
     holder.is_some_and(|place| place != by)
 }
 
-/// Whether the number is one of these.
-fn stands_in(numbers: &[u16], number: u16) -> bool
-    ensures stands { result ≡ list_any (λ y. y == number) numbers.now }
-{
-    // not `contains`, which tests several numbers at once: that is slower for the four at most that stand here
-    numbers.iter().any(|other| *other == number)
-}
-
 fn repeated(numbers: &[u16]) -> bool
     ensures repeated { result ≡ repeated numbers.now }
 {
     match numbers {
-        [first, rest @ ..] => stands_in(rest, *first) || repeated(rest),
+        [first, rest @ ..] => rest.contains(first) || repeated(rest),
         [] => false,
     }
 }
 
 /// Whether another row uses one of the nodes.
+// `users` and `by` stay two parameters: the users are those of all rows, and `by` is the place of one.
 fn used_elsewhere(users: &[Option<Place>], by: Place, nodes: &[u16]) -> bool
     ensures used { result ≡ list_any (λ n. elsewhere by (slice_index_or users.now n None)) nodes.now }
 {
@@ -71,6 +64,7 @@ fn overlaps(held: &[Option<Place>], by: Place, first: u16, count: usize) -> bool
 }
 
 /// The rule over the tables of a model, with the holders of nodes, branches, methods and statements.
+// Four vectors and no map: each has an entry for every row of another table.
 #[derive(Drop)]
 struct PlacementRule<'a> {
     t: &'a Tables,

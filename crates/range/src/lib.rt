@@ -180,10 +180,7 @@ impl RowTest<NodeRow> for RangeRule<'_> {
     ghost broken = { λ s r x. node_range (content s.0.now) x };
 
     fn breaks(&self, _row: usize, x: NodeRow) -> bool {
-        let Ok(kind) = NodeKind::try_from(x.kind) else {
-            return true;
-        };
-        node_range(self.0, x, kind)
+        NodeKind::try_from(x.kind).map_or(true, |kind| node_range(self.0, x, kind))
     }
 }
 
@@ -239,10 +236,7 @@ impl RowTest<StatementRow> for RangeRule<'_> {
     ghost broken = { λ s r x. statement_range (content s.0.now) x };
 
     fn breaks(&self, _row: usize, x: StatementRow) -> bool {
-        let Ok(kind) = StatementKind::try_from(x.kind) else {
-            return true;
-        };
-        statement_range(self.0, x, kind)
+        StatementKind::try_from(x.kind).map_or(true, |kind| statement_range(self.0, x, kind))
     }
 }
 

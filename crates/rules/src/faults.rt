@@ -9,6 +9,7 @@ ghost use Rattle.rules.specs.Faults.{table_fault};
 use tables::place::{Fault, Table, TableRule};
 
 /// A rule, as a test of the rows of a table.
+// A trait and no closure: each closure would need a proof of its own that it computes the definition of the test.
 pub trait RowTest<R> {
     ghost broken: { Self → ℕ → R → Bool };
 
@@ -34,6 +35,7 @@ pub fn first_row<R: Copy, T: RowTest<R>, K: Copy>(
 }
 
 /// A rule, asked table by table.
+// A trait and no closure: each table has rows of another type, so a rule says itself how a table is searched.
 pub trait Tablewise {
     ghost faults: { Self → Table → Option (Fault TableRule) };
 

@@ -15,6 +15,7 @@ pub trait User: Copy {
 }
 
 /// The first `count` of these nodes.
+// An `ArrayVec` is made of a whole array and cut: pushing the nodes one by one is longer.
 fn first_of(nodes: [u16; 5], count: usize) -> ArrayVec<u16, 5>
     ensures first { result.items ≡ take count nodes }
 {

@@ -8,7 +8,7 @@ ghost use Rattle.rules.specs.Faults.{fault_in, rule_fault, places};
 ghost use Rattle.tables.specs.declared.place.TableRule.TheVariants.{Method};
 
 use rules::faults::{RowTest, Tablewise, first_row, first_table};
-use rules::search::part;
+use rules::search::{listed, part};
 use rules::types::{is_interface, same_type};
 use tables::place::{Fault, Table, TableRule};
 use tables::rows::{ClassRow, InterfaceRow, ListRow, MethodRow, SignatureRow, TypeRow};
@@ -17,6 +17,7 @@ use tables::tables::Tables;
 fn same_type_at(t: &Tables, i: u16, j: u16) -> bool
     ensures same { result ≡ same_type_at (content t.now) i j }
 {
+    // not `zip` with `is_some_and`, which did not prove
     match (t.types.get(i as usize), t.types.get(j as usize)) {
         (Some(x), Some(y)) => same_type(*x, *y),
         _ => false,
@@ -41,8 +42,8 @@ fn same_types(t: &Tables, xs: &[ListRow], ys: &[ListRow]) -> bool
 fn same_parameters(t: &Tables, s: SignatureRow, x: MethodRow) -> bool
     ensures same { result ≡ same_types (content t.now) (part s.first s.count (content t.now).lists) (part x.slots_first x.parameters (content t.now).lists) }
 {
-    let wanted = part(&t.lists, s.first as usize, s.count as usize);
-    let taken = part(&t.lists, x.slots_first as usize, x.parameters as usize);
+    let wanted = listed(t, s.first, s.count);
+    let taken = listed(t, x.slots_first, x.parameters);
     same_types(t, wanted, taken)
 }
 
@@ -64,6 +65,8 @@ fn has_method(t: &Tables, class: ClassRow, s: SignatureRow) -> bool
     );
     methods.iter().any(|x| fits(t, s, *x))
 }
+
+// `t` and `class` stay two parameters: a struct of both would be as long as these functions, which say nothing else of it.
 
 fn lacks_signature(t: &Tables, class: ClassRow, s: SignatureRow) -> bool
     ensures lacks { result ≡ lacks_signature (content t.now) class s }
@@ -104,12 +107,9 @@ impl RowTest<ClassRow> for MethodRule<'_> {
     ghost broken = { λ s r x. class_method (content s.0.now) x };
 
     fn breaks(&self, _row: usize, class: ClassRow) -> bool {
-        let listed = part(
-            &self.0.lists,
-            class.interfaces_first as usize,
-            class.interfaces_count as usize,
-        );
-        listed.iter().any(|x| lacks_listed(self.0, class, *x))
+        listed(self.0, class.interfaces_first, class.interfaces_count)
+            .iter()
+            .any(|x| lacks_listed(self.0, class, *x))
     }
 }
 

@@ -12,7 +12,7 @@ ghost use Rattle.tables.specs.declared.place.TableRule.TheVariants.{Shape};
 use placement::holder;
 use placement::holders::method_classes;
 use rules::faults::{RowTest, Tablewise, first_row, first_table};
-use rules::search::part;
+use rules::search::{listed, part};
 use rules::types::{is_interface, is_plain, is_unit, same_type};
 use std::alloc::{AllocError, Global};
 use tables::place::{Fault, Place, Table, TableRule};
@@ -76,6 +76,7 @@ fn earliest(interfaces: &[InterfaceRow], row: usize) -> usize
 }
 
 /// Whether a signature before this row, from the first of these on, has this name.
+// Not one function with `repeats_name`: the rows are of two types, and a trait for their name is longer than a second closure.
 fn named_between(t: &Tables, first: usize, row: usize, name: u16) -> bool
     ensures named { result ≡ list_any (λ y. nat_eq y.name name) (between first row (content t.now).signatures) }
 {
@@ -93,6 +94,7 @@ impl RowTest<SignatureRow> for ShapeRule<'_> {
     }
 }
 
+// Not one function with `not_plain`: over the question it would have to say in its contract which definition that computes.
 fn not_interface(t: &Tables, x: ListRow) -> bool
     ensures other { result ≡ not_interface (content t.now) x }
 {
@@ -126,12 +128,9 @@ fn not_first(t: &Tables, x: ClassRow) -> bool
 fn lists_other(t: &Tables, x: ClassRow) -> bool
     ensures other { result ≡ list_any (not_interface (content t.now)) (part x.interfaces_first x.interfaces_count (content t.now).lists) }
 {
-    let listed = part(
-        &t.lists,
-        x.interfaces_first as usize,
-        x.interfaces_count as usize,
-    );
-    listed.iter().any(|y| not_interface(t, *y))
+    listed(t, x.interfaces_first, x.interfaces_count)
+        .iter()
+        .any(|y| not_interface(t, *y))
 }
 
 impl RowTest<ClassRow> for ShapeRule<'_> {
@@ -151,7 +150,7 @@ fn not_plain(t: &Tables, x: ListRow) -> bool
 fn takes_other(t: &Tables, x: MethodRow) -> bool
     ensures other { result ≡ list_any (not_plain (content t.now)) (part x.slots_first x.parameters (content t.now).lists) }
 {
-    part(&t.lists, x.slots_first as usize, x.parameters as usize)
+    listed(t, x.slots_first, x.parameters)
         .iter()
         .any(|y| not_plain(t, *y))
 }
@@ -179,6 +178,7 @@ fn repeats_name(t: &Tables, row: usize, x: MethodRow, class: ClassRow) -> bool
         .any(|y| y.name == x.name)
 }
 
+// A row with its number stays two parameters, as in the tests of rows.
 fn method_shape_in(t: &Tables, row: usize, x: MethodRow, class: ClassRow) -> bool
     ensures shape { result ≡ method_shape_in (content t.now) row x class }
 {

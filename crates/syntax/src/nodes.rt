@@ -10,8 +10,7 @@ use tables::rows::NodeRow;
 use tables::tables::Tables;
 
 /// The children of a node, or the parts of a statement: the first `count` of four.
-// An array and a count, not a `Vec`: the parts are copied on the stack with their node, and a list on the heap would cost an
-// allocation for each node that is read.
+// An array with a count, and no `ArrayVec`, which is not `Copy`: a node is copied with its parts.
 #[derive(Clone, Copy, PartialEq, Eq, Debug)]
 pub struct Parts {
     pub rows: [u16; 4],

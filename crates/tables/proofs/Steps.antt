@@ -1,18 +1,27 @@
--- One step of each of the two readers, on lists.
-use Rattle.std.proofs.Common.{◌≡◌, ℕ, zero, suc, ◌+◌, ◌-◌, ◌*◌, ◌<◌, ◌≤◌, List, [], ◌∷◌, ◌++◌, length, take, drop, sym, ap, ◌∙◌, append_assoc, suc-mul, arith}
+-- Numbers and rows, as the chunks that they are read from.
+use Rattle.std.proofs.Common.{◌≡◌, ℕ, zero, suc, ◌*◌, ◌<◌, ◌≤◌, ◌/◌, List, [], ◌∷◌, map, length, take, drop, refl, ap, length-drop, length-take, arith}
+use Rattle.std.proofs.Math.Nat.{le-div_iff_mul-le}
+use Rattle.std.proofs.lemmas.List.{take_all}
+use Rattle.std.specs.Int.{w16, from_be_bytes}
+use Rattle.std.specs.Simd.{first_chunks}
 use Rattle.tables.specs.Numbers.{numbers_of, rows_of}
 
--- what is read, and what is still to be read, after one more
-pub moved : {A : Type 0} (out more : List A) (x : A) (rest all next : List A) →
-    out ++ rest ≡ all → rest ≡ x ∷ more → next ≡ out ++ (x ∷ []) → next ++ more ≡ all
-moved out more x rest all next inv step pushed = rw (pushed, append_assoc) (ap (λ (r : List _). out ++ r) (sym step) ∙ inv)
+-- the numbers, a chunk of two bytes at a time
+pub numbers_chunked : (bs : List ℕ) → numbers_of bs ≡ map (from_be_bytes w16) (first_chunks 2 (length bs / 2) bs)
+numbers_chunked [] = refl
+numbers_chunked (a ∷ []) = refl
+numbers_chunked (a ∷ b ∷ bs) = let e : length (a ∷ b ∷ bs) / 2 ≡ suc (length bs / 2) = omega arith in rw (e, numbers_chunked bs)
 
-pub room : (count i w l : ℕ) → i < count → (count - i) * w ≤ l → (count - (i + 1)) * w + w ≤ l
-room count i w l lt h = let e : count - i ≡ suc (count - (i + 1)) = omega arith in rw suc-mul at (rw e at h)
+-- as many whole chunks as the rows need
+pub as_many : (w count n : ℕ) → 0 < w → count * w ≤ n → count ≤ n / w
+as_many w count n pos h = (le-div_iff_mul-le pos).1 h
 
-pub rows_more : {R : Type 0} (w : ℕ) (f : List ℕ → R) (count i : ℕ) (ns : List ℕ) → i < count →
-    rows_of w f (count - i) ns ≡ f (take w ns) ∷ rows_of w f (count - (i + 1)) (drop w ns)
-rows_more w f count i ns lt = let e : count - i ≡ suc (count - (i + 1)) = omega arith in rw e
+-- the rows, a chunk of `w` numbers at a time
+pub rows_chunked : {R : Type 0} (w : ℕ) (f : List ℕ → R) (count k : ℕ) (ns : List ℕ) → count ≤ k →
+    map f (take count (first_chunks w k ns)) ≡ rows_of w f count ns
+rows_chunked w f zero k ns h = refl
+rows_chunked w f (suc count) zero ns h = absurd (omega arith)
+rows_chunked w f (suc count) (suc k) ns h = rw (rows_chunked w f count k (drop w ns) (omega arith))
 
 -- two bytes to a number
 pub numbers_length : (xs : List ℕ) (k : ℕ) → length xs ≡ 2 * k → length (numbers_of xs) ≡ k
@@ -20,3 +29,11 @@ numbers_length [] k h = omega arith
 numbers_length (a ∷ []) k h = absurd (omega arith)
 numbers_length (a ∷ b ∷ xs) zero h = absurd (omega arith)
 numbers_length (a ∷ b ∷ xs) (suc k) h = ap suc (numbers_length xs k (omega arith))
+
+-- the header's numbers are eleven
+pub header_cells : (bs : List ℕ) → 27 ≤ length bs → length (numbers_of (take 22 (drop 5 bs))) ≡ 11
+header_cells bs h = numbers_length _ 11 (simp (length-take, length-drop) (omega arith))
+
+-- and so they are one row
+pub only_chunk : (ns : List ℕ) → length ns ≡ 11 → first_chunks 11 (length ns / 11) ns ≡ ns ∷ []
+only_chunk ns h = rw (h, take_all 11 ns (omega arith))

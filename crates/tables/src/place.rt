@@ -22,6 +22,7 @@ pub enum Table {
 
 impl Table {
     /// The table's number: 0 is the header, and the tables count from 1.
+    // `number` and no conversion to `u8`, which would not say which number it is
     pub fn number(self) -> u8
         ensures number { result ≡ table_number self }
     {

@@ -1,4 +1,4 @@
-ghost use Rattle.std.specs.Prelude.{◌≡◌, ℕ, ◌+◌, ◌*◌, ◌≤◌, List, length, drop, IfOk};
+ghost use Rattle.std.specs.Prelude.{◌≡◌, ◌+◌, ◌*◌, ◌^◌, ◌<◌, ◌≤◌, List, length, drop, IfOk};
 ghost use Rattle.tables.specs.Numbers.{rows_of};
 ghost use Rattle.tables.specs.Layout.{wrong_length, header_counts, cells_of, content, cut};
 ghost use Rattle.tables.specs.Reading.{Reads, header_fault};
@@ -35,9 +35,15 @@ fn wrong_length(bytes: &[u8]) -> bool
 }
 
 /// The rows of one table, which begins at `at` among the numbers.
-fn section<R: Row>(heap: Global, cells: &[u16], at: usize, count: u16) -> Result<Vec<R>, AllocError>
-    requires { at + count * R.Row.WIDTH ≤ length cells.now }
-    ensures rows { IfOk result (λ v. v.items ≡ rows_of R.Row.WIDTH R.Row.spelled count (drop at cells.now)) }
+fn section<const N: usize, R: Row<N>>(
+    heap: Global,
+    cells: &[u16],
+    at: usize,
+    count: u16,
+) -> Result<Vec<R>, AllocError>
+    requires width { (0 < N) × (N < 2 ^ 62) }
+    requires enough { at + count * N ≤ length cells.now }
+    ensures rows { IfOk result (λ v. v.items ≡ rows_of N R.Row.spelled count (drop at cells.now)) }
 {
     rows(heap, &cells[at..], count as usize)
 }
@@ -73,12 +79,14 @@ fn cut_tables(heap: Global, counts: Counts, cells: &[u16]) -> Result<Tables, All
 }
 
 /// The counts in the header of a model.
+#[tactic(auto, using(crate::proofs::Steps::header_cells, crate::proofs::Steps::only_chunk))]
 fn header_counts(heap: Global, bytes: &[u8]) -> Result<Counts, AllocError>
     requires { 27 ≤ length bytes.now }
     ensures counts { IfOk result (λ c. c ≡ header_counts bytes.now) }
 {
     let numbers = numbers(heap, &bytes[5..27])?;
-    Ok(Counts::read(numbers.as_slice()))
+    let (counts, _) = numbers.as_slice().as_chunks::<11>();
+    Ok(Counts::read(&counts[0]))
 }
 
 impl Tables {

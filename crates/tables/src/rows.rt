@@ -1,7 +1,10 @@
-ghost use Rattle.std.specs.Prelude.{◌≡◌, length, get_or};
+ghost use Rattle.std.specs.Prelude.{◌≡◌};
 ghost use Rattle.tables.specs.Rows.{type_row, list_row, constructor_row, function_row, interface_row, signature_row, class_row, method_row, node_row, branch_row, statement_row};
 
 use crate::numbers::Row;
+
+// The columns `kind`, `outside` and `more` are numbers and no enums: the rules of the format judge rows as they were read, and a
+// row that was read may hold any number.
 
 /// A type: its kind, and the data number, interface row or type row that the kind names.
 #[derive(Clone, Copy)]
@@ -111,196 +114,186 @@ pub struct StatementRow {
     pub other: u16,
 }
 
-impl Row for TypeRow {
-    ghost WIDTH = { 2 };
-
+impl Row<2> for TypeRow {
     ghost spelled = { type_row };
 
-    const WIDTH: usize = 2;
-
-    fn read(cells: &[u16]) -> TypeRow {
-        TypeRow {
-            kind: cells[0],
-            reference: cells[1],
-        }
+    fn read(cells: &[u16; 2]) -> TypeRow {
+        let [kind, reference] = *cells;
+        TypeRow { kind, reference }
     }
 }
 
-impl Row for ListRow {
-    ghost WIDTH = { 1 };
-
+impl Row<1> for ListRow {
     ghost spelled = { list_row };
 
-    const WIDTH: usize = 1;
-
-    fn read(cells: &[u16]) -> ListRow {
-        ListRow { entry: cells[0] }
+    fn read(cells: &[u16; 1]) -> ListRow {
+        let [entry] = *cells;
+        ListRow { entry }
     }
 }
 
-impl Row for ConstructorRow {
-    ghost WIDTH = { 3 };
-
+impl Row<3> for ConstructorRow {
     ghost spelled = { constructor_row };
 
-    const WIDTH: usize = 3;
-
-    fn read(cells: &[u16]) -> ConstructorRow {
+    fn read(cells: &[u16; 3]) -> ConstructorRow {
+        let [number, first, count] = *cells;
         ConstructorRow {
-            number: cells[0],
-            first: cells[1],
-            count: cells[2],
+            number,
+            first,
+            count,
         }
     }
 }
 
-impl Row for FunctionRow {
-    ghost WIDTH = { 5 };
-
+impl Row<5> for FunctionRow {
     ghost spelled = { function_row };
 
-    const WIDTH: usize = 5;
-
-    fn read(cells: &[u16]) -> FunctionRow {
+    fn read(cells: &[u16; 5]) -> FunctionRow {
+        let [result, slots_first, parameters, slots, body] = *cells;
         FunctionRow {
-            result: cells[0],
-            slots_first: cells[1],
-            parameters: cells[2],
-            slots: cells[3],
-            body: cells[4],
+            result,
+            slots_first,
+            parameters,
+            slots,
+            body,
         }
     }
 }
 
-impl Row for InterfaceRow {
-    ghost WIDTH = { 2 };
-
+impl Row<2> for InterfaceRow {
     ghost spelled = { interface_row };
 
-    const WIDTH: usize = 2;
-
-    fn read(cells: &[u16]) -> InterfaceRow {
-        InterfaceRow {
-            first: cells[0],
-            count: cells[1],
-        }
+    fn read(cells: &[u16; 2]) -> InterfaceRow {
+        let [first, count] = *cells;
+        InterfaceRow { first, count }
     }
 }
 
-impl Row for SignatureRow {
-    ghost WIDTH = { 4 };
-
+impl Row<4> for SignatureRow {
     ghost spelled = { signature_row };
 
-    const WIDTH: usize = 4;
-
-    fn read(cells: &[u16]) -> SignatureRow {
+    fn read(cells: &[u16; 4]) -> SignatureRow {
+        let [name, result, first, count] = *cells;
         SignatureRow {
-            name: cells[0],
-            result: cells[1],
-            first: cells[2],
-            count: cells[3],
+            name,
+            result,
+            first,
+            count,
         }
     }
 }
 
-impl Row for ClassRow {
-    ghost WIDTH = { 8 };
-
+impl Row<8> for ClassRow {
     ghost spelled = { class_row };
 
-    const WIDTH: usize = 8;
-
-    fn read(cells: &[u16]) -> ClassRow {
+    fn read(cells: &[u16; 8]) -> ClassRow {
+        let [
+            outside,
+            interfaces_first,
+            interfaces_count,
+            fields_first,
+            parameters,
+            fields,
+            methods_first,
+            methods_count,
+        ] = *cells;
         ClassRow {
-            outside: cells[0],
-            interfaces_first: cells[1],
-            interfaces_count: cells[2],
-            fields_first: cells[3],
-            parameters: cells[4],
-            fields: cells[5],
-            methods_first: cells[6],
-            methods_count: cells[7],
+            outside,
+            interfaces_first,
+            interfaces_count,
+            fields_first,
+            parameters,
+            fields,
+            methods_first,
+            methods_count,
         }
     }
 }
 
-impl Row for MethodRow {
-    ghost WIDTH = { 7 };
-
+impl Row<7> for MethodRow {
     ghost spelled = { method_row };
 
-    const WIDTH: usize = 7;
-
-    fn read(cells: &[u16]) -> MethodRow {
+    fn read(cells: &[u16; 7]) -> MethodRow {
+        let [
+            name,
+            result,
+            slots_first,
+            parameters,
+            slots,
+            statements_first,
+            statements_count,
+        ] = *cells;
         MethodRow {
-            name: cells[0],
-            result: cells[1],
-            slots_first: cells[2],
-            parameters: cells[3],
-            slots: cells[4],
-            statements_first: cells[5],
-            statements_count: cells[6],
+            name,
+            result,
+            slots_first,
+            parameters,
+            slots,
+            statements_first,
+            statements_count,
         }
     }
 }
 
-impl Row for NodeRow {
-    ghost WIDTH = { 7 };
-
+impl Row<7> for NodeRow {
     ghost spelled = { node_row };
 
-    const WIDTH: usize = 7;
-
-    fn read(cells: &[u16]) -> NodeRow {
+    fn read(cells: &[u16; 7]) -> NodeRow {
+        let [kind, reference, count, p1, p2, p3, p4] = *cells;
         NodeRow {
-            kind: cells[0],
-            reference: cells[1],
-            count: cells[2],
-            p1: cells[3],
-            p2: cells[4],
-            p3: cells[5],
-            p4: cells[6],
+            kind,
+            reference,
+            count,
+            p1,
+            p2,
+            p3,
+            p4,
         }
     }
 }
 
-impl Row for BranchRow {
-    ghost WIDTH = { 3 };
-
+impl Row<3> for BranchRow {
     ghost spelled = { branch_row };
 
-    const WIDTH: usize = 3;
-
-    fn read(cells: &[u16]) -> BranchRow {
+    fn read(cells: &[u16; 3]) -> BranchRow {
+        let [pattern, body, more] = *cells;
         BranchRow {
-            pattern: cells[0],
-            body: cells[1],
-            more: cells[2],
+            pattern,
+            body,
+            more,
         }
     }
 }
 
-impl Row for StatementRow {
-    ghost WIDTH = { 11 };
-
+impl Row<11> for StatementRow {
     ghost spelled = { statement_row };
 
-    const WIDTH: usize = 11;
-
-    fn read(cells: &[u16]) -> StatementRow {
+    fn read(cells: &[u16; 11]) -> StatementRow {
+        let [
+            kind,
+            target,
+            object,
+            reference,
+            count,
+            p1,
+            p2,
+            p3,
+            p4,
+            next,
+            other,
+        ] = *cells;
         StatementRow {
-            kind: cells[0],
-            target: cells[1],
-            object: cells[2],
-            reference: cells[3],
-            count: cells[4],
-            p1: cells[5],
-            p2: cells[6],
-            p3: cells[7],
-            p4: cells[8],
-            next: cells[9],
-            other: cells[10],
+            kind,
+            target,
+            object,
+            reference,
+            count,
+            p1,
+            p2,
+            p3,
+            p4,
+            next,
+            other,
         }
     }
 }

@@ -25,6 +25,7 @@ pub struct Counts {
 }
 
 /// The eleven tables of a model.
+// Without a model of its own: the tables are read by every crate, and a model would hide them. Contracts say `content`.
 #[derive(Drop)]
 pub struct Tables {
     pub types: Vec<TypeRow>,
@@ -100,26 +101,35 @@ impl Counts {
     }
 }
 
-impl Row for Counts {
-    ghost WIDTH = { 11 };
-
+impl Row<11> for Counts {
     ghost spelled = { counts };
 
-    const WIDTH: usize = 11;
-
-    fn read(cells: &[u16]) -> Counts {
+    fn read(cells: &[u16; 11]) -> Counts {
+        let [
+            types,
+            lists,
+            constructors,
+            functions,
+            interfaces,
+            signatures,
+            classes,
+            methods,
+            nodes,
+            branches,
+            statements,
+        ] = *cells;
         Counts {
-            types: cells[0],
-            lists: cells[1],
-            constructors: cells[2],
-            functions: cells[3],
-            interfaces: cells[4],
-            signatures: cells[5],
-            classes: cells[6],
-            methods: cells[7],
-            nodes: cells[8],
-            branches: cells[9],
-            statements: cells[10],
+            types,
+            lists,
+            constructors,
+            functions,
+            interfaces,
+            signatures,
+            classes,
+            methods,
+            nodes,
+            branches,
+            statements,
         }
     }
 }

@@ -3,7 +3,7 @@ ghost use Rattle.std.specs.Prelude.{◌≡◌};
 ghost use Rattle.tables.specs.Layout.{content};
 ghost use Rattle.typing.specs.Statements.{method_heading, signature_heading, method_named, signature_in, signature_named, given_by, value_of, awaitable, heading_parameters, class_parameters};
 
-use rules::search::part;
+use rules::search::{listed, part};
 use syntax::statements::Manner;
 use syntax::types::{ValueType, type_at};
 use tables::rows::{ClassRow, InterfaceRow, ListRow, MethodRow, SignatureRow};
@@ -57,6 +57,7 @@ pub(crate) fn method_named(t: &Tables, class: ClassRow, name: u16) -> Option<Hea
 }
 
 /// The signature of this name in the interface.
+// Not one function with `method_named`: the rows are of two types, and a trait for their name is longer than a second closure.
 fn signature_in(t: &Tables, interface: InterfaceRow, name: u16) -> Option<Heading>
     ensures named { result ≡ signature_in (content t.now) interface name }
 {
@@ -112,19 +113,11 @@ pub(crate) fn awaitable(of: ValueType) -> bool
 pub(crate) fn heading_parameters(t: &Tables, heading: Heading) -> &[ListRow]
     ensures parameters { result.now ≡ heading_parameters (content t.now) heading }
 {
-    part(
-        t.lists.as_slice(),
-        heading.first as usize,
-        heading.count as usize,
-    )
+    listed(t, heading.first, heading.count)
 }
 
 pub(crate) fn class_parameters(t: &Tables, class: ClassRow) -> &[ListRow]
     ensures parameters { result.now ≡ class_parameters (content t.now) class }
 {
-    part(
-        t.lists.as_slice(),
-        class.fields_first as usize,
-        class.parameters as usize,
-    )
+    listed(t, class.fields_first, class.parameters)
 }

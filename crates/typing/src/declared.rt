@@ -9,7 +9,7 @@ ghost use Rattle.typing.specs.Expressions.{lists_type, this_type, branches_of, f
 
 use crate::within::Within;
 use placement::holders::run_length;
-use rules::search::part;
+use rules::search::listed;
 use syntax::types::{ValueType, agree, type_at};
 use tables::rows::{BranchRow, ClassRow, ConstructorRow, FunctionRow, ListRow};
 use tables::tables::Tables;
@@ -43,12 +43,7 @@ pub(crate) fn null_type(t: &Tables, row: u16) -> Option<ValueType>
 pub(crate) fn lists_type(t: &Tables, class: ClassRow, named: ValueType) -> bool
     ensures lists { result ≡ lists_type (content t.now) class named }
 {
-    let listed = part(
-        t.lists.as_slice(),
-        class.interfaces_first as usize,
-        class.interfaces_count as usize,
-    );
-    listed
+    listed(t, class.interfaces_first, class.interfaces_count)
         .iter()
         .any(|entry| agree(entry_type(t, *entry), Some(named)))
 }
@@ -67,22 +62,14 @@ pub(crate) fn this_type(t: &Tables, within: Within, row: u16) -> Option<ValueTyp
 pub(crate) fn parameters_of(t: &Tables, constructor: ConstructorRow) -> &[ListRow]
     ensures parameters { result.now ≡ parameters_of (content t.now) constructor }
 {
-    part(
-        t.lists.as_slice(),
-        constructor.first as usize,
-        constructor.count as usize,
-    )
+    listed(t, constructor.first, constructor.count)
 }
 
 /// The parameters of a function.
 pub(crate) fn function_parameters(t: &Tables, function: FunctionRow) -> &[ListRow]
     ensures parameters { result.now ≡ function_parameters (content t.now) function }
 {
-    part(
-        t.lists.as_slice(),
-        function.slots_first as usize,
-        function.parameters as usize,
-    )
+    listed(t, function.slots_first, function.parameters)
 }
 
 /// The branches of the case whose first branch is this one.

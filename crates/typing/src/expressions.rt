@@ -31,6 +31,7 @@ pub struct Examined {
     pub to: ValueType,
 }
 
+// In these functions `scope` and `row` stay two parameters: the scope is lent on from call to call, and the row falls.
 impl Expressions<'_> {
     /// The type of the expression in this row, if it has one.
     #[cycle(expression_types)]

@@ -1,6 +1,8 @@
 //! Which functions and which placed statements have no type.
 ghost use Rattle.std.specs.Prelude.{◌≡◌, not, IfOk};
 ghost use Rattle.tables.specs.Layout.{content};
+ghost use Rattle.typing.specs.Scopes.{method_scope};
+ghost use Rattle.typing.specs.Statements.{statement_rule};
 ghost use Rattle.typing.specs.Typing.{function_typed, statement_typed, placed_in, untyped_in, untyped_function, untyped_statement, typing_verdict};
 
 use crate::expressions::Expressions;
@@ -52,12 +54,9 @@ pub struct Placed {
 }
 
 /// Whether the statement keeps the rule of its kind.
-fn statement_typed(t: &Tables, placed: Placed, row: StatementRow) -> bool
-    ensures typed { result ≡ statement_typed (content t.now) placed.class placed.method row }
+fn keeps_rule(t: &Tables, placed: Placed, statement: Statement) -> bool
+    ensures keeps { result ≡ statement_rule (content t.now) placed.class (method_scope (content t.now) placed.class placed.method) placed.method statement }
 {
-    let Ok(statement) = Statement::try_from(row) else {
-        return false;
-    };
     let mut memory = [UNUSED; 16];
     let mut mapping = Mapping::new(&mut memory);
     let mut scope = Scope::new(&mut mapping);
@@ -68,6 +67,13 @@ fn statement_typed(t: &Tables, placed: Placed, row: StatementRow) -> bool
         method: placed.method,
     };
     statements.keeps_rule(&mut scope, statement)
+}
+
+/// Whether the row is of a known kind and keeps the rule of that kind.
+fn statement_typed(t: &Tables, placed: Placed, row: StatementRow) -> bool
+    ensures typed { result ≡ statement_typed (content t.now) placed.class placed.method row }
+{
+    Statement::try_from(row).is_ok_and(|statement| keeps_rule(t, placed, statement))
 }
 
 /// The functions of a model.

@@ -19,13 +19,14 @@ pub struct Patterns<'a> {
     pub function: FunctionRow,
 }
 
+// In these functions `scope` and `row` stay two parameters: the scope is lent on from call to call, and the row falls.
 impl Patterns<'_> {
     /// Whether the pattern in this row fits the type; it binds its variables, left to right.
     #[cycle(pattern_fits)]
     pub(crate) fn fits(&self, scope: &mut Scope<'_, '_>, row: u16, to: ValueType) -> bool
         ensures matched { Matched (pattern_scope (content self.now.t.now) self.now.function row scope.old to) scope.old result scope.new }
     {
-        // Not `is_some_and`: a closure in a cycle of calls, or one that changes the scope, tells the proof nothing; so below.
+        // Not `is_some_and`, here and in the next functions: in a cycle of calls a closure needs clauses as long as the function's.
         let Some(node) = node_at(self.t, row) else {
             return false;
         };

@@ -33,6 +33,7 @@ fn bind_slot(t: &Tables, scope: &mut Scope<'_, '_>, list: SlotList, k: u16)
 fn bind_slots(t: &Tables, scope: &mut Scope<'_, '_>, list: SlotList, n: u16)
     ensures bound { scope.new ≡ slots_from list.offset (declared (content t.now) list.first list.count) n scope.old }
 {
+    // `k` is the number of the slot, which is bound by it
     for k in 0..n {
         bind_slot(t, scope, list, k);
     }

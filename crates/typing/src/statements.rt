@@ -132,7 +132,7 @@ impl<'a> Statements<'a> {
     fn new_fits(&self, scope: &mut Scope<'_, '_>, target: Option<u16>, creation: Creation) -> bool
         ensures gives { Gives (new_rule (content self.now.t.now) self.now.class scope.old target creation) scope.old result scope.new }
     {
-        // Not `is_some_and`: a closure that changes the scope tells the proof nothing; so below.
+        // Not `is_some_and`, here and in `call_fits`: a closure that changes the scope needs clauses as long as the function's.
         let Some(class) = self.t.classes.get(creation.class as usize).copied() else {
             return false;
         };
@@ -157,6 +157,7 @@ impl<'a> Statements<'a> {
     fn takes_object(&self, scope: &Scope<'_, '_>, target: Option<u16>, class: ClassRow) -> bool
         ensures takes { result ≡ takes_object (content self.now.t.now) scope.now target class }
     {
+        // not `map_or`, which did not prove over the scope; nor in `takes`
         let Some(slot) = target else {
             return true;
         };
@@ -170,7 +171,6 @@ impl<'a> Statements<'a> {
 fn takes(scope: &Scope<'_, '_>, target: Option<u16>, of: Option<ValueType>) -> bool
     ensures takes { result ≡ takes scope.now target of }
 {
-    // Not `map_or`: of a closure that holds the scope the proof did not learn what it answers.
     let Some(slot) = target else {
         return of.is_some();
     };

@@ -10,6 +10,7 @@ use tables::read::ReadError;
 fn take_in(rt: &HostRuntime, input: &mut Input) -> anyhow::Result<()> {
     let mut buffer = vec![in rt.alloc(); 0u8; 16384]?;
     let mut stdin = rt.stdin();
+    // a loop to the end of the input needs a bound, since every loop is proved to end
     for _ in 0..u64::MAX {
         let count = stdin.read(buffer.as_mut_slice())?;
         if count == 0 {

@@ -14,6 +14,7 @@ use tables::tables::Tables;
 fn first_fault(heap: Global, t: &Tables) -> Result<Option<Fault<TableRule>>, AllocError>
     ensures first { IfOk result (λ v. v ≡ table_faults (content t.now)) }
 {
+    // not `or_else`: two of the checks may lack memory
     if let Some(missing) = range::first_fault(t) {
         return Ok(Some(missing));
     }
