@@ -5,3 +5,4 @@ pub mod Numbers
 pub mod Places
 pub mod Reading
 pub mod Rows
+pub mod Texts

@@ -1,4 +1,5 @@
-ghost use Rattle.std.specs.Prelude.{◌≡◌, ℕ};
+ghost use Rattle.std.specs.Prelude.{◌≡◌, ℕ, Some};
+ghost use Rattle.tables.specs.Texts.{fault_text};
 ghost use Rattle.tables.specs.Places.{table_number, rule_number};
 
 use std::fmt;
@@ -93,6 +94,8 @@ pub struct Fault<R> {
 
 /// The numbers of the rule and of the table, and the row.
 impl<R: Rule> fmt::Display for Fault<R> {
+    ghost output = { λ f. Some (fault_text R.number f) };
+
     fn fmt<W: fmt::Write>(&self, f: &mut fmt::Formatter<W>) -> fmt::Result {
         let (rule, table) = (self.rule.number(), self.table.number());
         write!(f, "{rule} {table} {}", self.row)
