@@ -1,33 +1,32 @@
 //! Reads many small models as text from standard input, and prints the verdict on each.
 //!
 //! A blank line and a line that begins with `#` are passed over. Any other line is a case, `NAME: ITEMS`, with spaces between the
-//! items: they spell the bytes of an input, as the module `text` says. The verdict on it is a line `NAME: read` or
+//! items: they spell the bytes of an input, as the module `text` says. The verdict on it is a line `NAME: accepted` or
 //! `NAME: refused NUMBER TABLE ROW`, or `NAME: not a case` where the line is not of this form.
 #![tactic(auto)]
 
 mod text;
 
 use anyhow::anyhow;
+use loading::load::{LoadError, LoadFault, load_input};
 use model::input::Input;
 use std::alloc::Global;
 use std::fmt;
 use std::io::{BufRead, BufReader};
-use tables::place::{Fault, TableRule};
-use tables::read::ReadError;
 use text::SpellError;
 
 /// What is printed of a case.
 #[derive(Clone, Copy)]
 enum Verdict {
-    Read,
-    Refused(Fault<TableRule>),
+    Accepted,
+    Refused(LoadFault),
     NotACase,
 }
 
 impl fmt::Display for Verdict {
     fn fmt<W: fmt::Write>(&self, f: &mut fmt::Formatter<W>) -> fmt::Result {
         match self {
-            Verdict::Read => write!(f, "read"),
+            Verdict::Accepted => write!(f, "accepted"),
             Verdict::Refused(fault) => write!(f, "refused {fault}"),
             Verdict::NotACase => write!(f, "not a case"),
         }
@@ -38,10 +37,10 @@ impl fmt::Display for Verdict {
 fn judge(heap: Global, bytes: &[u8]) -> anyhow::Result<Verdict> {
     let mut input = Input::new(heap)?;
     input.absorb(bytes)?;
-    match input.check(heap) {
-        Ok(_) => Ok(Verdict::Read),
-        Err(ReadError::Refused(fault)) => Ok(Verdict::Refused(fault)),
-        Err(ReadError::NoMemory) => Err(anyhow!("no memory for the model")),
+    match load_input(heap, input) {
+        Ok(_) => Ok(Verdict::Accepted),
+        Err(LoadError::Refused(fault)) => Ok(Verdict::Refused(fault)),
+        Err(LoadError::NoMemory) => Err(anyhow!("no memory for the model")),
     }
 }
 

@@ -1,6 +1,5 @@
 -- The verdicts of typing and of loading are the least faults.
-use Rattle.std.proofs.Common.{◌≡◌, ℕ, true, List, map, Some, None, Ok, Err, vec_items, Option, Result, Vec, sym, refl, ◌∙◌, inl, inr, lit≤}
-use Rattle.std.specs.declared.alloc.Global.{Global}
+use Rattle.std.proofs.Common.{◌≡◌, ℕ, true, List, [], ◌∷◌, map, Some, None, Ok, Err, Option, Result, sym, refl, ◌∙◌, inl, inr, lit≤}
 use Rattle.tables.specs.declared.place.Fault.{Fault}
 use Rattle.tables.specs.declared.place.TableRule.TheVariants as tables
 use Rattle.tables.specs.declared.check.CheckError.{CheckError}
@@ -24,13 +23,16 @@ use Rattle.loading.specs.Types.{keeps_types}
 use Rattle.loading.proofs.Lifting.{lifted, first_append, rules_lifted}
 
 -- Typing.
-typing_complete : (m : Content) (rule : TypingRule) → In rule (typing_case m).rules
+pub typing_complete : (m : Content) (rule : TypingRule) → In rule (typing_case m).rules
 typing_complete m typing.Function = inl refl
 typing_complete m typing.Statement = inr (inl refl)
 
-typing_judged : (m : Content) (v : Option (Fault TypingRule)) → typing_verdict m ≡ v → Judges typing_number (typing_case m) v
+pub typing_rising : Rising typing_number 0 (typing.Function ∷ typing.Statement ∷ [])
+typing_rising = (lit≤ tt, (lit≤ tt, tt))
+
+pub typing_judged : (m : Content) (v : Option (Fault TypingRule)) → typing_verdict m ≡ v → Judges typing_number (typing_case m) v
 unfolding typing_verdict
-typing_judged m v e = judges typing_number (typing_case m) (typing_complete m) (lit≤ tt, (lit≤ tt, tt)) v (sym e)
+typing_judged m v e = judges typing_number (typing_case m) (typing_complete m) typing_rising v (sym e)
 
 pub judge_types : (m : Content) (r : Result (Unit {0}) (CheckError TypingRule)) → ChecksTypes m r → JudgesTypes m r
 judge_types m (Ok done) h = typing_judged m None h
@@ -74,7 +76,7 @@ module _ (bs : List ℕ) where
   judge_refused (Reading f) h = model_judged bs (Some (whole_fault (Reading f))) (verdict_splits bs ∙ rw h)
   judge_refused (Typing f) h = model_judged bs (Some (whole_fault (Typing f))) (verdict_splits bs ∙ rw (h.0, h.1))
 
-pub judge_load : (bytes : Vec ℕ Global) (r : Result AcceptedModel LoadError) → Loads bytes r → JudgesModel (vec_items bytes) r
-judge_load bytes (Ok a) h = judge_accepted (vec_items bytes) h.0 h.1
-judge_load bytes (Err (Refused f)) h = judge_refused (vec_items bytes) f h
-judge_load bytes (Err NoMemory) h = tt
+pub judge_load : (bs : List ℕ) (r : Result AcceptedModel LoadError) → Loads bs r → JudgesModel bs r
+judge_load bs (Ok a) h = judge_accepted bs h.0 h.1
+judge_load bs (Err (Refused f)) h = judge_refused bs f h
+judge_load bs (Err NoMemory) h = tt

@@ -1,4 +1,5 @@
 pub mod Accepting
 pub mod Errors
+pub mod Laws
 pub mod Loading
 pub mod Types

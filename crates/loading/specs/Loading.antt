@@ -1,6 +1,5 @@
 -- Loading: all rules of a model, those of the tables and then those of typing, and what loading answers.
-use Rattle.std.specs.Prelude.{◌≡◌, ℕ, Bool, List, [], ◌++◌, map, Some, None, Ok, Err, vec_items, Result, Vec}
-use Rattle.std.specs.declared.alloc.Global.{Global}
+use Rattle.std.specs.Prelude.{◌≡◌, ℕ, Bool, List, [], ◌++◌, map, Some, None, Ok, Err, vec_items, Result}
 use Rattle.tables.specs.declared.place.Fault.{Fault}
 use Rattle.tables.specs.declared.place.Table.{Table}
 use Rattle.tables.specs.declared.place.TableRule.{TableRule}
@@ -55,12 +54,12 @@ LoadRefuses bs (Reading f) = verdict_in bs ≡ Some f
 LoadRefuses bs (Typing f) = (verdict_in bs ≡ None) × (typing_verdict (content_of bs) ≡ Some f)
 
 -- The accepted model of these bytes where no rule is broken, else the fault; want of memory says nothing of the bytes.
-abbrev pub Loads : Vec ℕ Global → Result AcceptedModel LoadError → Type 0
-Loads bytes (Ok a) =
-    (verdict_in (vec_items bytes) ≡ None) × (typing_verdict (content_of (vec_items bytes)) ≡ None)
-    × (a.model.bytes ≡ bytes) × (content a.model.tables ≡ content_of (vec_items bytes))
-Loads bytes (Err (Refused f)) = LoadRefuses (vec_items bytes) f
-Loads bytes (Err NoMemory) = Unit {0}
+abbrev pub Loads : List ℕ → Result AcceptedModel LoadError → Type 0
+Loads bs (Ok a) =
+    (verdict_in bs ≡ None) × (typing_verdict (content_of bs) ≡ None)
+    × (vec_items a.model.bytes ≡ bs) × (content a.model.tables ≡ content_of bs)
+Loads bs (Err (Refused f)) = LoadRefuses bs f
+Loads bs (Err NoMemory) = Unit {0}
 
 -- A fault that is told is broken, and no rule is broken at a lower place; bytes are accepted exactly if no rule is broken anywhere.
 abbrev pub JudgesModel : List ℕ → Result AcceptedModel LoadError → Type 0

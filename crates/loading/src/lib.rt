@@ -4,3 +4,5 @@
 
 pub mod accepted;
 pub mod load;
+#[cfg(test)]
+mod tests;

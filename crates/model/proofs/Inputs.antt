@@ -98,12 +98,11 @@ module _ (i : Input) (input : List ℕ) (h : Keeps i input) where
         rw whole (length_fault input (wrong_stated input (λ e. omega arith)))
 
     -- a model that is kept whole
-    pub kept_whole : end ≤ length (vec_items i.kept) → take (end - 0) (vec_items i.kept) ≡ model_in input
+    pub kept_whole : end ≤ length (vec_items i.kept) → take end (vec_items i.kept) ≡ model_in input
     kept_whole le =
         let long : length (vec_items i.kept) ≡ min 43477 (length input) = ap length h.kept ∙ length-take 43477 input in
-        let n : end - 0 ≡ end = omega arith in
         let inside : end ≤ 43477 = omega arith in
-        rw (n, h.kept, take-take end 43477 input inside, ends)
+        rw (h.kept, take-take end 43477 input inside, ends)
 
     -- a model that is longer than what is kept
     module _ (more : length (vec_items i.kept) < end) (there : end ≤ i.total) where

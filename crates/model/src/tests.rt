@@ -41,11 +41,11 @@ fn more_input_is_not_the_models(rt: HostRuntime) -> Result<(), Fail> {
     let mut input = Input::new(rt.alloc())?;
     input.absorb(&SMALLEST)?;
     input.absorb(&[7, 7, 7])?;
-    match input.check(rt.alloc()) {
-        Ok(tables) => {
-            assert_eq!(rt; tables.nodes.len(), 1);
+    match input.model() {
+        Ok(bytes) => {
+            assert_eq!(rt; bytes.len(), 97);
             Ok(())
         },
-        Err(_) => Err(Fail::new("what follows the model was read")),
+        Err(_) => Err(Fail::new("not all of the model is there")),
     }
 }

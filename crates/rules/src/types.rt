@@ -19,7 +19,12 @@ fn refers(kind: u16) -> bool
 pub fn same_type(x: TypeRow, y: TypeRow) -> bool
     ensures same { result ≡ same_type x y }
 {
-    x.kind == y.kind && (!refers(x.kind) || x.reference == y.reference)
+    let same_kind = x.kind == y.kind;
+    if !refers(x.kind) {
+        return same_kind;
+    }
+    // `&` and not `&&`: with no branch between the two, a search compares several rows at once
+    same_kind & (x.reference == y.reference)
 }
 
 /// Whether the row is Unit.

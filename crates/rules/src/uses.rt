@@ -2,32 +2,55 @@ ghost use Rattle.std.specs.Prelude.{◌≡◌, ℕ, ◌≤◌, min, leb, List, �
 ghost use Rattle.std.specs.List.{list_any};
 ghost use Rattle.rules.specs.Uses.{function_uses, node_uses, branch_uses, statement_uses, object_uses, part_uses};
 
-use arrayvec::ArrayVec;
+use std::marker::Model;
 use tables::kinds::StatementKind;
 use tables::rows::{BranchRow, FunctionRow, NodeRow, StatementRow};
+
+/// The nodes that a row uses, at most five.
+// An array with a count, and no `ArrayVec`, which writes a blank over each node that it cuts off: every row is asked several times.
+#[derive(Drop)]
+pub struct Uses {
+    nodes: [u16; 5],
+    count: usize,
+}
+
+/// The first `count` nodes.
+impl Model for Uses {
+    ghost Value = { List ℕ };
+
+    ghost view = { λ u. take u.count u.nodes };
+
+    ghost invariant = { λ u. u.count ≤ 5 };
+}
+
+impl Uses {
+    pub fn as_slice(&self) -> &[u16]
+        ensures nodes { result.now ≡ self.now }
+    {
+        &self.nodes[..self.count]
+    }
+}
 
 /// A row that uses nodes, at most five.
 pub trait User: Copy {
     ghost uses: { Self → List ℕ };
 
-    fn uses(self) -> ArrayVec<u16, 5>
-        ensures uses { result.items ≡ uses self };
+    fn uses(self) -> Uses
+        ensures uses { result ≡ uses self };
 }
 
 /// The first `count` of these nodes.
-// An `ArrayVec` is made of a whole array and cut: pushing the nodes one by one is longer.
-fn first_of(nodes: [u16; 5], count: usize) -> ArrayVec<u16, 5>
-    ensures first { result.items ≡ take count nodes }
+fn first_of(nodes: [u16; 5], count: usize) -> Uses
+    requires few { count ≤ 5 }
+    ensures first { result ≡ take count nodes }
 {
-    let mut first = ArrayVec::from(nodes);
-    first.truncate(count);
-    first
+    Uses { nodes, count }
 }
 
 impl User for FunctionRow {
     ghost uses = { function_uses };
 
-    fn uses(self) -> ArrayVec<u16, 5> {
+    fn uses(self) -> Uses {
         first_of([self.body, 0, 0, 0, 0], 1)
     }
 }
@@ -35,7 +58,7 @@ impl User for FunctionRow {
 impl User for BranchRow {
     ghost uses = { branch_uses };
 
-    fn uses(self) -> ArrayVec<u16, 5> {
+    fn uses(self) -> Uses {
         first_of([self.pattern, self.body, 0, 0, 0], 2)
     }
 }
@@ -50,19 +73,19 @@ fn named(count: u16) -> usize
 impl User for NodeRow {
     ghost uses = { node_uses };
 
-    fn uses(self) -> ArrayVec<u16, 5> {
+    fn uses(self) -> Uses {
         first_of([self.p1, self.p2, self.p3, self.p4, 0], named(self.count))
     }
 }
 
-fn parts(x: StatementRow) -> ArrayVec<u16, 5>
-    ensures parts { result.items ≡ part_uses x }
+fn parts(x: StatementRow) -> Uses
+    ensures parts { result ≡ part_uses x }
 {
     first_of([x.p1, x.p2, x.p3, x.p4, 0], named(x.count))
 }
 
-fn object_and_parts(x: StatementRow) -> ArrayVec<u16, 5>
-    ensures called { result.items ≡ object_uses x ++ part_uses x }
+fn object_and_parts(x: StatementRow) -> Uses
+    ensures called { result ≡ object_uses x ++ part_uses x }
 {
     if x.object == 0 {
         return parts(x);
@@ -74,7 +97,7 @@ fn object_and_parts(x: StatementRow) -> ArrayVec<u16, 5>
 impl User for StatementRow {
     ghost uses = { statement_uses };
 
-    fn uses(self) -> ArrayVec<u16, 5> {
+    fn uses(self) -> Uses {
         match StatementKind::try_from(self.kind) {
             Ok(StatementKind::Await) | Err(_) => first_of([0; 5], 0),
             Ok(StatementKind::AsyncCall | StatementKind::SyncCall) => object_and_parts(self),

@@ -1,2 +1,3 @@
+mod Folds
 mod Shared
 mod Tables

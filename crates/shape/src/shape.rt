@@ -1,8 +1,9 @@
 //! Rule 5, Shape: whether types, names, defaults, classes and methods have their shape.
-ghost use Rattle.std.specs.Prelude.{◌≡◌, ℕ, Bool, true, false, take, IfOk, None, ◌==◌, nat_eq};
+ghost use Rattle.std.specs.Prelude.{◌≡◌, ℕ, ◌<◌, Bool, true, false, ◌||◌, fold, length, take, IfOk, None, ◌==◌, nat_eq, slice_index};
 ghost use Rattle.std.specs.List.{list_any};
-ghost use Rattle.shape.specs.Earliest.{lowered, earliest_from};
+ghost use Rattle.shape.specs.Earliest.{lowered, earliest_from, AreEarliest};
 ghost use Rattle.tables.specs.Layout.{content};
+ghost use Rattle.rules.specs.Types.{same_type};
 ghost use Rattle.shape.specs.Shape.{type_shape, constructor_shape, signature_shape, not_interface, not_main, not_first, class_shape, not_plain, outside_method_shape, inside_method_shape, repeats_name, method_shape_in, method_shape_of, method_shape, shape_broken};
 ghost use Rattle.rules.specs.Faults.{fault_in, rule_fault, places};
 ghost use Rattle.placement.specs.Holders.{method_classes};
@@ -21,19 +22,39 @@ use tables::rows::{
 };
 use tables::tables::Tables;
 
-/// The rule over the tables of a model, with the class of each method.
+/// The rule over the tables of a model, with the class of each method, and for each signature the earliest that an interface holds
+/// together with it.
 #[derive(Clone, Copy)]
 struct ShapeRule<'a> {
     t: &'a Tables,
     classes: &'a [Option<Place>],
+    earliest: &'a [usize],
     ghost classes_held: { classes.now ≡ method_classes (content t.now) },
+    ghost earliest_held: { AreEarliest earliest.now (length (content t.now).signatures) (content t.now).interfaces },
+}
+
+/// Whether the type is this one, or was found before.
+fn found_or_same(found: bool, x: TypeRow, y: TypeRow) -> bool
+    ensures found { result ≡ (found || same_type x y) }
+{
+    found | same_type(x, y)
+}
+
+/// Whether the type is among these.
+fn is_among(types: &[TypeRow], x: TypeRow) -> bool
+    ensures among { result ≡ fold (λ found y. found || same_type x y) false types.now }
+{
+    // not `any`: with no stop at the first such row, several rows are compared at once
+    types
+        .iter()
+        .fold(false, |found, y| found_or_same(found, x, *y))
 }
 
 impl RowTest<TypeRow> for ShapeRule<'_> {
     ghost broken = { λ s r x. type_shape (content s.t.now) r x };
 
     fn breaks(&self, row: usize, x: TypeRow) -> bool {
-        part(&self.t.types, 0, row).iter().any(|y| same_type(x, *y))
+        is_among(part(&self.t.types, 0, row), x)
     }
 }
 
@@ -75,6 +96,44 @@ fn earliest(interfaces: &[InterfaceRow], row: usize) -> usize
         .fold(row, |low, interface| lowered(low, row, *interface))
 }
 
+/// Lowers the entry of each row that the interface holds.
+fn lower_held(earliest: &mut [usize], interface: InterfaceRow)
+    ensures long { length earliest.new ≡ length earliest.old }
+    ensures lowered { (r : ℕ) → r < length earliest.old → slice_index earliest.new r ≡ lowered r (slice_index earliest.old r) interface }
+{
+    let first = interface.first as usize;
+    let end = earliest.len().min(first + interface.count as usize);
+    // by the row: of what is written through `iter_mut` nothing is known afterwards
+    for row in first..end {
+        earliest[row] = lowered(earliest[row], row, interface);
+    }
+}
+
+/// For each signature the earliest one that an interface holds together with it, or itself.
+// One look at each interface's own rows: a look at all interfaces for each signature would compare every pair.
+fn earliest_signatures(heap: Global, t: &Tables) -> Result<Vec<usize>, AllocError>
+    ensures earliest { IfOk result (λ v. AreEarliest v.items (length (content t.now).signatures) (content t.now).interfaces) }
+{
+    let mut earliest: Vec<usize> = (0..t.signatures.len()).collect(heap)?;
+    for interface in &t.interfaces {
+        lower_held(&mut earliest, *interface);
+    }
+    Ok(earliest)
+}
+
+impl ShapeRule<'_> {
+    /// The earliest signature that an interface holds together with this one, or this one.
+    fn earliest_of(&self, row: usize) -> usize
+        ensures earliest { result ≡ earliest_from row row (content self.now.t.now).interfaces }
+    {
+        // for a row that is not there, which is never asked, it is looked for among the interfaces
+        self.earliest
+            .get(row)
+            .copied()
+            .unwrap_or_else(|| earliest(&self.t.interfaces, row))
+    }
+}
+
 /// Whether a signature before this row, from the first of these on, has this name.
 // Not one function with `repeats_name`: the rows are of two types, and a trait for their name is longer than a second closure.
 fn named_between(t: &Tables, first: usize, row: usize, name: u16) -> bool
@@ -89,7 +148,7 @@ impl RowTest<SignatureRow> for ShapeRule<'_> {
     ghost broken = { λ s r x. signature_shape (content s.t.now) r x };
 
     fn breaks(&self, row: usize, x: SignatureRow) -> bool {
-        let first = earliest(&self.t.interfaces, row);
+        let first = self.earliest_of(row);
         named_between(self.t, first, row, x.name)
     }
 }
@@ -243,8 +302,10 @@ pub fn first_fault(heap: Global, t: &Tables) -> Result<Option<Fault<TableRule>>,
     ensures first { IfOk result (λ v. v ≡ rule_fault Shape (shape_broken (content t.now)) (places (content t.now))) }
 {
     let classes = method_classes(heap, t)?;
+    let earliest = earliest_signatures(heap, t)?;
     Ok(first_table(&ShapeRule {
         t,
         classes: &classes,
+        earliest: &earliest,
     }))
 }

@@ -1,5 +1,6 @@
 -- The verdict is the least broken place, over any rules that are listed in the order of their numbers.
 use Rattle.std.proofs.Common.{◌≡◌, ℕ, ◌<◌, Bool, true, false, cond, Some, None, Option, sym, refl, subst, inl, inr, arith, lit≤}
+use Rattle.std.proofs.lemmas.Bool.{cases_Bool}
 use Rattle.tables.specs.declared.place.Fault.{Fault}
 use Rattle.tables.specs.declared.place.Table.{Table}
 use Rattle.tables.specs.declared.place.Table.TheVariants as table
@@ -91,3 +92,10 @@ module _ {R : Type 0} (number : R → ℕ) (c : Case R) (complete : (x : R) → 
   -- the law of a verdict that is known to be the definition's
   pub judges : (v : Option (Fault R)) → v ≡ verdict_of c → Judges number c v
   judges v e = let P : Option (Fault R) → Type 0 = λ x. Judges number c x in subst P (sym e) judged
+
+  -- where there is no verdict, no place breaks a rule
+  pub unbroken : verdict_of c ≡ None → (x : R) (t : Table) (r : ℕ) → r < c.rows t → c.broken x t r ≡ false
+  unbroken h x t r lt = elim (cases_Bool (c.broken x t r)) [
+    | inl hit ↦ absurd (judged.clean h (fault x t r) (record { row = lt; test = hit }))
+    | inr miss ↦ miss
+  ]

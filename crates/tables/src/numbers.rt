@@ -39,7 +39,7 @@ pub(crate) fn rows<const N: usize, R: Row<N>>(
         .iter()
         .map(
             |row| -> R
-                ensures { result ≡ R.Row.spelled row.entry.now }
+                ensures spelled { result ≡ R.Row.spelled row.entry.now }
             { R::read(row) },
         )
         .collect(heap)

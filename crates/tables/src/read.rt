@@ -2,7 +2,6 @@ ghost use Rattle.std.specs.Prelude.{◌≡◌, ◌+◌, ◌*◌, ◌^◌, ◌<�
 ghost use Rattle.tables.specs.Numbers.{rows_of};
 ghost use Rattle.tables.specs.Layout.{wrong_length, header_counts, cells_of, content, cut};
 ghost use Rattle.tables.specs.Reading.{Reads, header_fault};
-ghost use Rattle.tables.specs.declared.check.CheckError.TheVariants.{Refused};
 
 use crate::check::CheckError;
 use crate::numbers::{Row, numbers, rows};
@@ -14,14 +13,14 @@ use std::alloc::{AllocError, Global};
 pub type ReadError = CheckError<TableRule>;
 
 /// The fault of a header that breaks the rule.
-pub fn header_fault(rule: TableRule) -> ReadError
-    ensures fault { result ≡ Refused (header_fault rule) }
+pub fn header_fault(rule: TableRule) -> Fault<TableRule>
+    ensures fault { result ≡ header_fault rule }
 {
-    CheckError::Refused(Fault {
+    Fault {
         rule,
         table: Table::Header,
         row: 0,
-    })
+    }
 }
 
 fn wrong_length(bytes: &[u8]) -> bool
@@ -95,11 +94,11 @@ impl Tables {
         ensures reads { Reads bytes.now result }
     {
         if wrong_length(bytes) {
-            return Err(header_fault(TableRule::Length));
+            return Err(ReadError::Refused(header_fault(TableRule::Length)));
         }
         let counts = header_counts(heap, bytes)?;
         if counts.over_limit() || 27 + 2 * counts.cells() != bytes.len() {
-            return Err(header_fault(TableRule::Counts));
+            return Err(ReadError::Refused(header_fault(TableRule::Counts)));
         }
         let cells = numbers(heap, &bytes[27..])?;
         Ok(cut_tables(heap, counts, cells.as_slice())?)

@@ -1,5 +1,5 @@
 -- A scope in which each slot is bound once at most has memory for one binding more wherever a slot is free.
-use Rattle.std.proofs.Common.{◌≡◌, ℕ, zero, suc, ◌+◌, ◌-◌, ◌<◌, ◌≤◌, Bool, true, false, cond, ◌&&◌, ltb, leb, [], ◌∷◌, length, drop, is_some, Option, sym, refl, ◌∙◌, inl, inr, arith, ltb-true, leb-true}
+use Rattle.std.proofs.Common.{◌≡◌, ℕ, zero, suc, ◌+◌, ◌-◌, ◌<◌, ◌≤◌, Bool, true, false, cond, ◌&&◌, ltb, leb, [], ◌∷◌, length, drop, is_some, sym, refl, ◌∙◌, inl, inr, arith, ltb-true, leb-true}
 use Rattle.std.proofs.lemmas.Bool.{eq-eqb, ne_eqb, lt-ltb, le-ltb, cases_eq, cases_lt}
 use Rattle.mapping.specs.declared.mapping.Binding.{Binding}
 use Rattle.mapping.specs.Bindings.{lookup}
@@ -153,7 +153,3 @@ bind_free_lem slot t s s' done memory at none once enough full e =
     let room = once_bound (record { slot = slot; entry = t }) s at none once in
     let made : done ≡ true = full ∙ lt-ltb (length s) memory (omega arith) in
     rw made at e
-
--- a slot that was looked for in vain
-pub not_found : (slot : ℕ) (s : Bindings) (found : Option ValueType) → found ≡ lookup slot s → false ≡ is_some found → is_some (lookup slot s) ≡ false
-not_found slot s found e none = rw (← e) (sym none)

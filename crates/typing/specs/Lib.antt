@@ -1,9 +1,12 @@
+pub mod ExpressionLaws
 pub mod Expressions
 pub mod Giving
 pub mod Matching
+pub mod PatternLaws
 pub mod Patterns
 pub mod Room
 pub mod Scopes
+pub mod StatementLaws
 pub mod Statements
 pub mod Typing
 pub mod Views

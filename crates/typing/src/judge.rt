@@ -57,15 +57,19 @@ pub struct Placed {
 fn keeps_rule(t: &Tables, placed: Placed, statement: Statement) -> bool
     ensures keeps { result ≡ statement_rule (content t.now) placed.class (method_scope (content t.now) placed.class placed.method) placed.method statement }
 {
-    let mut memory = [UNUSED; 16];
-    let mut mapping = Mapping::new(&mut memory);
-    let mut scope = Scope::new(&mut mapping);
-    bind_method(t, &mut scope, placed.class, placed.method);
     let statements = Statements {
         t,
         class: placed.class,
         method: placed.method,
     };
+    // such a statement names no slot, so none is bound for it
+    if let Statement::Skip { next } | Statement::Suspend { next } = statement {
+        return statements.goes_on(next);
+    }
+    let mut memory = [UNUSED; 16];
+    let mut mapping = Mapping::new(&mut memory);
+    let mut scope = Scope::new(&mut mapping);
+    bind_method(t, &mut scope, placed.class, placed.method);
     statements.keeps_rule(&mut scope, statement)
 }
 

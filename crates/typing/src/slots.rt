@@ -1,6 +1,7 @@
 //! The scopes of functions and of statements.
-ghost use Rattle.std.specs.Prelude.{◌≡◌, ◌+◌, ◌==◌, ◌||◌, IsTrue, []};
+ghost use Rattle.std.specs.Prelude.{◌≡◌, ℕ, ◌+◌, ◌==◌, ◌||◌, IsTrue, [], None};
 ghost use Rattle.tables.specs.Layout.{content};
+ghost use Rattle.mapping.specs.Bindings.{lookup};
 ghost use Rattle.typing.specs.Scopes.{declared, bind_typed, slots_from, function_scope, method_scope};
 
 use crate::declared::declared;
@@ -22,15 +23,17 @@ struct SlotList {
 
 /// Binds the slot `k` of the list, if it is there.
 fn bind_slot(t: &Tables, scope: &mut Scope<'_, '_>, list: SlotList, k: u16)
+    requires unbound { lookup (list.offset + k) scope.old ≡ None }
     ensures bound { scope.new ≡ bind_typed (list.offset + k) (declared (content t.now) list.first list.count k) scope.old }
 {
     if let Some(to) = declared(t, list.first, list.count, k) {
-        scope.bind(list.offset + k, to);
+        scope.bind_unbound(list.offset + k, to);
     }
 }
 
 /// Binds the first `n` slots of the list.
 fn bind_slots(t: &Tables, scope: &mut Scope<'_, '_>, list: SlotList, n: u16)
+    requires unbound { (k : ℕ) → lookup (list.offset + k) scope.old ≡ None }
     ensures bound { scope.new ≡ slots_from list.offset (declared (content t.now) list.first list.count) n scope.old }
 {
     // `k` is the number of the slot, which is bound by it

@@ -103,7 +103,7 @@ impl<'a> Statements<'a> {
     }
 
     /// Whether the statement in this row is one of the method.
-    fn goes_on(&self, next: u16) -> bool
+    pub(crate) fn goes_on(&self, next: u16) -> bool
         ensures within { result ≡ goes_on self.now.method next }
     {
         let first = self.method.statements_first;

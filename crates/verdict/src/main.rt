@@ -2,9 +2,9 @@
 #![tactic(auto)]
 
 use anyhow::anyhow;
+use loading::load::{LoadError, load_input};
 use model::input::Input;
 use std::io::Read;
-use tables::read::ReadError;
 
 /// Takes in all of standard input.
 fn take_in(rt: &HostRuntime, input: &mut Input) -> anyhow::Result<()> {
@@ -24,17 +24,17 @@ fn take_in(rt: &HostRuntime, input: &mut Input) -> anyhow::Result<()> {
 fn run(rt: &HostRuntime) -> anyhow::Result<()> {
     let mut input = Input::new(rt.alloc())?;
     take_in(rt, &mut input)?;
-    match input.check(rt.alloc()) {
-        Ok(tables) => {
-            println!(rt; "{tables}")?;
-            println!(rt; "read")?;
+    match load_input(rt.alloc(), input) {
+        Ok(model) => {
+            println!(rt; "{}", model.tables())?;
+            println!(rt; "accepted")?;
             Ok(())
         }
-        Err(ReadError::Refused(fault)) => {
+        Err(LoadError::Refused(fault)) => {
             println!(rt; "refused {fault}")?;
             Ok(())
         }
-        Err(ReadError::NoMemory) => Err(anyhow!("no memory for the model")),
+        Err(LoadError::NoMemory) => Err(anyhow!("no memory for the model")),
     }
 }
 

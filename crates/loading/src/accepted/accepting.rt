@@ -2,7 +2,9 @@
 ghost use Rattle.std.specs.Prelude.{◌≡◌, None};
 ghost use Rattle.tables.specs.Layout.{content};
 ghost use Rattle.typing.specs.Typing.{typing_verdict};
+ghost use Rattle.model.specs.Rules.{NoPlaceBreaks};
 ghost use Rattle.loading.specs.Accepting.{ChecksTypes, JudgesTypes};
+ghost use Rattle.loading.specs.Laws.{WellTyped, Lawful, PassesTyped};
 
 use crate::accepted::AcceptedModel;
 use model::model::ReadModel;
@@ -19,6 +21,7 @@ pub type TypingError = CheckError<TypingRule>;
 pub fn check_types(heap: Global, model: &ReadModel) -> Result<(), TypingError>
     ensures checked { ChecksTypes (content model.now.tables) result }
     ensures least { JudgesTypes (content model.now.tables) result }
+    ensures exact { PassesTyped (content model.now.tables) result }
 {
     match first_fault(heap, model.tables())? {
         Some(fault) => Err(TypingError::Refused(fault)),
@@ -43,9 +46,13 @@ impl AcceptedModel {
         self.model.bytes()
     }
 
-    /// The tables that the bytes spell.
+    /// The tables that the bytes spell. No place of them breaks a rule, and they are well typed.
+    #[tactic(auto, using(crate::proofs::Laws::well_typed, crate::proofs::Laws::lawful))]
     pub fn tables(&self) -> &Tables
         ensures tables { result.now ≡ self.now.model.tables }
+        ensures kept { NoPlaceBreaks (content result.now) }
+        ensures typed { WellTyped (content result.now) }
+        ensures laws { Lawful (content result.now) }
     {
         self.model.tables()
     }

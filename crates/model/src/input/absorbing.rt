@@ -1,15 +1,12 @@
-//! Taking in an input piece by piece, and judging the model that it begins with.
+//! Taking in an input piece by piece, and the model that it begins with.
 ghost use Rattle.std.specs.Prelude.{◌≡◌, ℕ, ◌+◌, ◌^◌, ◌≤◌, List, [], ◌++◌, length, is_ok, IfOk, slice_index};
 ghost use Rattle.tables.specs.Layout.{stated_length};
-ghost use Rattle.model.specs.Input.{Keeps, Absorbs, model_in};
-ghost use Rattle.model.specs.Reading.{Checks};
+ghost use Rattle.model.specs.Input.{Keeps, Absorbs, GivesModel, model_in};
 
 use crate::input::Input;
-use crate::model::reading::check;
 use std::alloc::{AllocError, Global};
-use tables::place::TableRule;
-use tables::read::{ReadError, header_fault};
-use tables::tables::Tables;
+use tables::place::{Fault, TableRule};
+use tables::read::header_fault;
 
 /// The bytes of the largest model: every table at its limit.
 const LARGEST: usize = 43_477;
@@ -55,20 +52,21 @@ impl Input {
         Ok(())
     }
 
-    /// The tables of the model that the input begins with, or why there are none.
-    pub fn check(&self, heap: Global) -> Result<Tables, ReadError>
-        ensures checked { (input : List ℕ) → Keeps self.now input → Checks (model_in input) result }
+    /// The bytes of the model that the input begins with, or the fault of a model of which not all bytes are there or kept.
+    pub fn model(self) -> Result<Vec<u8>, Fault<TableRule>>
+        ensures model { (input : List ℕ) → Keeps self input → GivesModel (model_in input) result }
     {
-        let kept = self.kept.as_slice();
-        let end = stated_length(kept) + 4;
+        let mut kept = self.kept;
+        let end = stated_length(kept.as_slice()) + 4;
         if end > self.total {
             return Err(header_fault(TableRule::Length));
         }
         if end <= kept.len() {
-            return check(heap, &kept[0..end]);
+            kept.truncate(end);
+            return Ok(kept);
         }
         // all of it is there, and it is longer than the largest model
-        if byte(kept, 4) != 1 {
+        if byte(kept.as_slice(), 4) != 1 {
             return Err(header_fault(TableRule::Length));
         }
         Err(header_fault(TableRule::Counts))

@@ -1,5 +1,5 @@
 //! Making a scope, and binding slots in it.
-ghost use Rattle.std.specs.Prelude.{◌≡◌, ◌≤◌, true, [], length};
+ghost use Rattle.std.specs.Prelude.{◌≡◌, ◌≤◌, true, [], ◌∷◌, length, None};
 ghost use Rattle.mapping.specs.Bindings.{lookup, oldest, bound, capacity};
 ghost use Rattle.typing.specs.Room.{is_slot};
 ghost use Rattle.typing.specs.Scopes.{bind_free};
@@ -38,9 +38,17 @@ impl<'a, 'b> Scope<'a, 'b> {
         requires slot { is_slot slot ≡ true }
         ensures bound { self.new ≡ bind_free slot to self.old }
     {
-        if self.find(slot).is_some() {
-            return;
+        if self.find(slot).is_none() {
+            self.bind_unbound(slot, to);
         }
+    }
+
+    /// Binds a slot that is not bound yet, without a search for it.
+    pub(crate) fn bind_unbound(&mut self, slot: u16, to: ValueType)
+        requires slot { is_slot slot ≡ true }
+        requires unbound { lookup slot self.old ≡ None }
+        ensures bound { self.new ≡ record { slot = slot; entry = to } ∷ self.old }
+    {
         let _ = self.mapping.bind(slot, to);
     }
 

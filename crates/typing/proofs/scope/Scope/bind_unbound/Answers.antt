@@ -1,14 +1,11 @@
-use Rattle.std.proofs.Common.{◌≡◌, ◌∷◌, false, is_ok, is_some, sym, ap, ◌∙◌}
+use Rattle.std.proofs.Common.{◌≡◌, ◌∷◌, false, is_ok, is_some}
 use Rattle.mapping.specs.Bindings.{lookup, bound, capacity}
-use Rattle.typing.specs.Scopes.{Bindings}
-use Rattle.typing.proofs.Room.{once_bound, bind_free_lem, not_found}
-use Rattle.typing.proofs.scope.Scope.bind.Goals as goal
+use Rattle.typing.proofs.Room.{once_bound, bind_free_lem}
+use Rattle.typing.proofs.scope.Scope.bind_unbound.Goals as goal
 
--- the slot that was looked for is free in the bindings inside
+-- the slot is free in the bindings inside
 free_inside : (c : goal.After-bind) → is_some (lookup c.args.slot (bound c.self.inside.mapping.now)) ≡ false
-free_inside c =
-    let found = c.find.ensures.found ∙ ap (λ (s : Bindings). lookup c.args.slot s) (sym c.self.view_is) in
-    not_found c.args.slot (bound c.self.inside.mapping.now) c.find.result found c.if-is_some.ensures
+free_inside c = rw (c.self.view_is, c.requires.unbound)
 
 -- so it is bound there
 made : (c : goal.After-bind) → bound c.bind.new.self ≡ record { slot = c.args.slot; entry = c.args.to } ∷ bound c.self.inside.mapping.now
@@ -24,4 +21,4 @@ invariant_of-self c = (
 )
 
 pub returns : goal.returns
-returns c = record { bound = rw (← c.self.view_is, free_inside c) (made c) }
+returns c = record { bound = rw (← c.self.view_is) (made c) }
