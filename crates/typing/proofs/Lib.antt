@@ -1,7 +1,7 @@
 pub mod ExpressionLaws
 mod Matches
 pub mod PatternLaws
-mod Room
+pub mod Room
 pub mod StatementLaws
 mod Typings
 mod Unbound

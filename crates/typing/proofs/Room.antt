@@ -1,11 +1,10 @@
 -- A scope in which each slot is bound once at most has memory for one binding more wherever a slot is free.
-use Rattle.std.proofs.Common.{◌≡◌, ℕ, zero, suc, ◌+◌, ◌-◌, ◌<◌, ◌≤◌, Bool, true, false, cond, ◌&&◌, ltb, leb, [], ◌∷◌, length, drop, is_some, sym, refl, ◌∙◌, inl, inr, arith, ltb-true, leb-true}
+use Rattle.std.proofs.Common.{◌≡◌, ℕ, zero, suc, ◌+◌, ◌-◌, ◌<◌, ◌≤◌, Bool, true, false, cond, ◌&&◌, ltb, leb, List, [], ◌∷◌, length, drop, is_some, sym, refl, ◌∙◌, inl, inr, arith, ltb-true, leb-true}
 use Rattle.std.proofs.lemmas.Bool.{eq-eqb, ne_eqb, lt-ltb, le-ltb, cases_eq, cases_lt}
 use Rattle.mapping.specs.declared.mapping.Binding.{Binding}
 use Rattle.mapping.specs.Bindings.{lookup}
 use Rattle.syntax.specs.declared.types.ValueType.{ValueType}
 use Rattle.typing.specs.Room.{is_slot, slot_of, free}
-use Rattle.typing.specs.Scopes.{Bindings}
 
 -- the sixteen slots are apart
 local_slot : (i : ℕ) → i < 8 → slot_of i ≡ i
@@ -41,10 +40,10 @@ place_of slot e = go (ltb slot 8) refl
     go false low = high (leb 128 slot) (ltb slot 136) refl refl (rw low at e)
 
 -- how much a slot counts, by its place
-counts : ℕ → Bindings → ℕ
+counts : {E : Type 0} → ℕ → List (Binding E) → ℕ
 counts n s = cond (is_some (lookup (slot_of n) s)) 0 1
 
-at_most_one : (n : ℕ) (s : Bindings) → counts n s ≤ 1
+at_most_one : {E : Type 0} (n : ℕ) (s : List (Binding E)) → counts n s ≤ 1
 unfolding counts
 at_most_one n s = go (is_some (lookup (slot_of n) s))
   where
@@ -52,21 +51,30 @@ at_most_one n s = go (is_some (lookup (slot_of n) s))
     go true = omega arith
     go false = omega arith
 
-free_zero : (s : Bindings) → free 0 s ≡ 0
+free_zero : {E : Type 0} (s : List (Binding E)) → free 0 s ≡ 0
 unfolding free
 free_zero s = refl
 
-free_suc : (n : ℕ) (s : Bindings) → free (suc n) s ≡ counts n s + free n s
+free_suc : {E : Type 0} (n : ℕ) (s : List (Binding E)) → free (suc n) s ≡ counts n s + free n s
 unfolding counts free
 free_suc n s = refl
 
 -- nothing is bound
 pub free_all : (n : ℕ) → free {E = ValueType} n [] ≡ n
 unfolding counts
-free_all zero = free_zero []
-free_all (suc n) = let h = free_all n in let f = free_suc n [] in omega arith
+free_all zero = free_zero {E = ValueType} []
+free_all (suc n) = let h = free_all n in let f = free_suc {E = ValueType} n [] in omega arith
 
-module _ (b : Binding ValueType) (s : Bindings) where
+-- no more slots are free than there are
+pub free_most : {E : Type 0} (n : ℕ) (s : List (Binding E)) → free n s ≤ n
+free_most zero s = let z = free_zero s in omega arith
+free_most (suc n) s =
+    let h = free_most n s in
+    let u = at_most_one n s in
+    let f = free_suc n s in
+    omega arith
+
+module _ {E : Type 0} (b : Binding E) (s : List (Binding E)) where
   -- a binding of another slot changes nothing
   other : (n : ℕ) → (b.slot ≡ slot_of n → ⊥) → counts n (b ∷ s) ≡ counts n s
   unfolding counts
@@ -130,6 +138,10 @@ module _ (b : Binding ValueType) (s : Bindings) where
         omega arith)
   ]
 
+  -- a local that is bound for the first time
+  pub local_bound : b.slot < 8 → is_some (lookup b.slot s) ≡ false → free 8 s ≡ suc (free 8 (b ∷ s))
+  local_bound low none = free_bound b.slot 8 (sym (local_slot b.slot low)) low (omega arith) none
+
   -- each slot is bound once at most: after a bind, and in what was there before
   pub once_bound : is_slot b.slot ≡ true → is_some (lookup b.slot s) ≡ false → length s + free 16 s ≤ 16 → length (b ∷ s) + free 16 (b ∷ s) ≤ 16
   once_bound slot none once =
@@ -140,13 +152,13 @@ module _ (b : Binding ValueType) (s : Bindings) where
   once_before : length (b ∷ s) + free 16 (b ∷ s) ≤ 16 → length s + free 16 s ≤ 16
   once_before once = let h = free_without 16 (omega arith) in omega arith
 
-pub once_cut : (k : ℕ) (s : Bindings) → length s + free 16 s ≤ 16 → length (drop k s) + free 16 (drop k s) ≤ 16
+pub once_cut : {E : Type 0} (k : ℕ) (s : List (Binding E)) → length s + free 16 s ≤ 16 → length (drop k s) + free 16 (drop k s) ≤ 16
 once_cut zero s once = once
 once_cut (suc k) [] once = once
 once_cut (suc k) (b ∷ s) once = once_cut k s (once_before b s once)
 
 -- a bind of a free slot, for which there is always memory
-pub bind_free_lem : (slot : ℕ) (t : ValueType) (s s' : Bindings) (done : Bool) (memory : ℕ) → is_slot slot ≡ true → is_some (lookup slot s) ≡ false →
+pub bind_free_lem : {E : Type 0} (slot : ℕ) (t : E) (s s' : List (Binding E)) (done : Bool) (memory : ℕ) → is_slot slot ≡ true → is_some (lookup slot s) ≡ false →
     length s + free 16 s ≤ 16 → 16 ≤ memory → done ≡ ltb (length s) memory →
     s' ≡ cond done (record { slot = slot; entry = t } ∷ s) s → s' ≡ record { slot = slot; entry = t } ∷ s
 bind_free_lem slot t s s' done memory at none once enough full e =

@@ -73,7 +73,7 @@ pub(crate) fn function_parameters(t: &Tables, function: FunctionRow) -> &[ListRo
 }
 
 /// The branches of the case whose first branch is this one.
-pub(crate) fn branches_of(t: &Tables, first: u16) -> &[BranchRow]
+pub fn branches_of(t: &Tables, first: u16) -> &[BranchRow]
     ensures branches { result.now ≡ branches_of (content t.now) first }
 {
     let rest = t.branches.get(first as usize..).unwrap_or(&[]);

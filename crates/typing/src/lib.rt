@@ -2,7 +2,7 @@
 #![tactic(auto)]
 
 mod calls;
-mod declared;
+pub mod declared;
 mod expressions;
 pub mod judge;
 mod patterns;

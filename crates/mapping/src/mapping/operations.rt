@@ -26,6 +26,13 @@ impl<'a, E: Blank> Mapping<'a, E> {
         self.count
     }
 
+    /// For how many bindings there is memory.
+    pub fn capacity(&self) -> usize
+        ensures capacity { result ≡ capacity self.now }
+    {
+        self.bindings.len()
+    }
+
     /// The newest entry of the slot among the bindings that were made since there were `earlier` of them.
     pub fn find(&self, earlier: usize, slot: u16) -> Option<E>
         ensures newest { result ≡ lookup slot (since earlier (bound self.now)) }
@@ -45,7 +52,7 @@ impl<'a, E: Blank> Mapping<'a, E> {
         ensures memory { memory self.new ≡ (if is_ok result then slice_set (memory self.old) (length (bound self.old)) (record { slot = slot; entry = entry }) else memory self.old) }
         ensures capacity { capacity self.new ≡ capacity self.old }
     {
-        if self.count >= self.bindings.len() {
+        if self.count >= self.capacity() {
             return Err(Full);
         }
         // by its index: the contract of `get_mut` does not say what the slice holds after a write

@@ -1,0 +1,13 @@
+-- The worked examples compute.
+use Rattle.std.proofs.Common.{refl}
+use Rattle.syntax.specs.Descent.{descend, descend_to}
+use Rattle.evaluation.specs.Evaluation.{run, step, work, carried_out}
+use Rattle.evaluation.specs.Examples.{ArithmeticExamples, MatchingExamples}
+use Rattle.evaluation.specs.Matching.{fit_of}
+
+pub arithmetic_examples : ArithmeticExamples
+arithmetic_examples = record { sum_stops = refl; quotient_is_cut = refl; quotient_stops = refl; none_by_0 = refl }
+
+pub matching_examples : MatchingExamples
+unfolding descend descend_to run step work carried_out fit_of
+matching_examples = record { twice_differs = refl; twice_same = refl; literal_differs = refl; both = refl }

@@ -1,0 +1,6 @@
+mod Carrying
+mod Computed
+mod Depths
+mod Evaluating
+mod Growing
+mod Matching

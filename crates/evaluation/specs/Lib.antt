@@ -1,0 +1,11 @@
+pub mod Arithmetic
+pub mod Carried
+pub mod Evaluation
+pub mod Examples
+pub mod Matching
+pub mod Plans
+pub mod Refusals
+pub mod Rules
+pub mod Stores
+pub mod Values
+pub mod Views
