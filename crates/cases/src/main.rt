@@ -1,19 +1,17 @@
 //! Reads many small models as text from standard input, and prints the verdict on each.
 //!
 //! A blank line and a line that begins with `#` are passed over. Any other line is a case, `NAME: ITEMS`, with spaces between the
-//! items: they spell the bytes of an input, as the module `text` says. The verdict on it is a line `NAME: accepted` or
+//! items: they spell the bytes of an input, as the crate `spelling` says. The verdict on it is a line `NAME: accepted` or
 //! `NAME: refused NUMBER TABLE ROW`, or `NAME: not a case` where the line is not of this form.
 #![tactic(auto)]
-
-mod text;
 
 use anyhow::anyhow;
 use loading::load::{LoadError, LoadFault, load_input};
 use model::input::Input;
+use spelling::text::{SpellError, spelled};
 use std::alloc::Global;
 use std::fmt;
 use std::io::{BufRead, BufReader};
-use text::SpellError;
 
 /// What is printed of a case.
 #[derive(Clone, Copy)]
@@ -46,7 +44,7 @@ fn judge(heap: Global, bytes: &[u8]) -> anyhow::Result<Verdict> {
 
 /// The verdict on the input that the items spell.
 fn verdict_on(heap: Global, items: &str) -> anyhow::Result<Verdict> {
-    match text::spelled(heap, items) {
+    match spelled(heap, items) {
         Ok(bytes) => judge(heap, bytes.as_slice()),
         Err(SpellError::NotAnItem) => Ok(Verdict::NotACase),
         Err(SpellError::NoMemory) => Err(anyhow!("no memory for the bytes of a case")),

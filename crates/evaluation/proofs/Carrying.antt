@@ -21,7 +21,7 @@ use Rattle.evaluation.specs.Stores.{next_cell, with_cell}
 use Rattle.evaluation.specs.Values.{Data, truth_of, cell_of, same_value}
 use Rattle.evaluation.proofs.Depths.{worth, worth_spent, worth_visited, out_done, out_refuse, out_visit, out_make, out_read, out_bind}
 
-ok-err : {A E : Type 0} {a : A} {e : E} → ◌≡◌ {A = Result A E} (Ok a) (Err e) → ⊥
+pub ok-err : {A E : Type 0} {a : A} {e : E} → ◌≡◌ {A = Result A E} (Ok a) (Err e) → ⊥
 ok-err same = let z : ◌≡◌ {A = ℕ} 0 1 = cc in absurd (omega arith)
 
 -- an ending that nothing follows

@@ -81,7 +81,7 @@ module _ (m : Content) (this : ℕ) where
       let a = work_spent d task s none in
       record { same = a ∙ sym (work_spent d' task s none); falls = rw a (omega arith) }
 
-  work_same : (d d' : ℕ) (task : Task) (s : State) → s.left ≤ d → s.left ≤ d' → Same s.left (work m this d task s) (work m this d' task s)
+  pub work_same : (d d' : ℕ) (task : Task) (s : State) → s.left ≤ d → s.left ≤ d' → Same s.left (work m this d task s) (work m this d' task s)
   work_same zero d' task s le le' = spent_same zero d' task s (omega arith)
   work_same (suc d) zero task s le le' = spent_same (suc d) zero task s (omega arith)
   work_same (suc d) (suc d') task s le le' = elim (cases_lt 0 s.left) [
@@ -99,7 +99,7 @@ module _ (m : Content) (this : ℕ) where
   abbrev pub worth : Task → State → Ending Value
   worth task s = work m this s.left task s
 
-  worth_falls : (task : Task) (s : State) → (worth task s).state.left ≤ s.left
+  pub worth_falls : (task : Task) (s : State) → (worth task s).state.left ≤ s.left
   worth_falls task s = (work_same s.left s.left task s (omega arith) (omega arith)).falls
 
   pub worth_spent : (task : Task) (s : State) → s.left ≡ 0 → worth task s ≡ ending (Err VisitsSpent) s

@@ -8,17 +8,13 @@ use Rattle.evaluation.specs.declared.refusal.EvaluationRefusal.TheVariants.{Visi
 use Rattle.evaluation.specs.Evaluation.{State, Ending, ending, after, made, paid, Worker, run, step, work, carried_out}
 use Rattle.evaluation.specs.Plans.{Task, Plan, done, refuse, visit, make, read}
 use Rattle.evaluation.specs.Rules.{rule}
-use Rattle.evaluation.specs.Stores.{with_cell}
+use Rattle.evaluation.specs.Stores.{with_cell, Longer}
 use Rattle.evaluation.specs.Values.{Data}
 
--- the later cells are the earlier ones and newer ones behind them
-abbrev pub Longer : List Data → List Data → Type 0
-Longer cs ds = (newer : List Data) × (ds ≡ cs ++ newer)
-
-longer_same : (cs : List Data) → Longer cs cs
+pub longer_same : (cs : List Data) → Longer cs cs
 longer_same cs = ([], sym (append-nil cs))
 
-longer_then : (cs ds es : List Data) → Longer cs ds → Longer ds es → Longer cs es
+pub longer_then : (cs ds es : List Data) → Longer cs ds → Longer ds es → Longer cs es
 longer_then cs ds es h k = (h.0 ++ k.0, k.1 ∙ ap (λ (xs : List Data). xs ++ k.0) h.1 ∙ append_assoc cs h.0 k.0)
 
 longer_made : (cs : List Data) (d : Data) → Longer cs (with_cell cs d)
@@ -56,7 +52,7 @@ module _ (m : Content) (this : ℕ) where
       go true = longer_same s.cells
       go false = run_longer worker each (rule m this task) (paid s)
 
-  work_longer : (depth : ℕ) (task : Task) (s : State) → Longer s.cells (work m this depth task s).state.cells
+  pub work_longer : (depth : ℕ) (task : Task) (s : State) → Longer s.cells (work m this depth task s).state.cells
   unfolding work
   work_longer zero task s = longer_same s.cells
   work_longer (suc depth) task s = step_longer (work m this depth) (work_longer depth) task s

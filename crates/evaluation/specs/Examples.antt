@@ -1,6 +1,7 @@
 -- Worked examples, computed from the definitions.
 use Rattle.std.specs.Prelude.{◌≡◌, ℕ, ◌-◌, ◌^◌, false, List, [], ◌∷◌, ℤ, pos, negsuc, Some, None, Ok, Err, Option, Result}
-use Rattle.tables.specs.declared.rows.ConstructorRow.{ConstructorRow}
+use Rattle.tables.specs.declared.rows.BranchRow.{BranchRow}
+use Rattle.tables.specs.declared.rows.FunctionRow.{FunctionRow}
 use Rattle.tables.specs.declared.rows.NodeRow.{NodeRow}
 use Rattle.tables.specs.Layout.{Content}
 use Rattle.evaluation.specs.declared.refusal.EvaluationRefusal.{EvaluationRefusal}
@@ -8,9 +9,10 @@ use Rattle.evaluation.specs.declared.refusal.EvaluationRefusal.TheVariants.{Zero
 use Rattle.evaluation.specs.declared.value.Value.{Value}
 use Rattle.evaluation.specs.declared.value.Value.TheVariants as value
 use Rattle.evaluation.specs.Arithmetic.{sum, quotient}
-use Rattle.evaluation.specs.Evaluation.{Ending, State, carried_out}
-use Rattle.evaluation.specs.Matching.{Fit, fit_of}
-use Rattle.evaluation.specs.Plans.{Environment}
+use Rattle.evaluation.specs.Evaluation.{Ending, State, ending, carried_out}
+use Rattle.evaluation.specs.Matching.{fit_of}
+use Rattle.evaluation.specs.Plans.{Environment, ask}
+use Rattle.evaluation.specs.Values.{Data}
 
 -- the greatest and the least Int, and −1
 abbrev pub greatest : ℤ
@@ -29,36 +31,55 @@ pub record ArithmeticExamples : Type 0 where
   pub quotient_stops : quotient least (minus 1) ≡ Ok greatest
   pub none_by_0 : quotient (pos 5) (pos 0) ≡ Err ZeroDivisor
 
--- A model with one data: a first constructor without parts and, in row 1, `Pair` of two. Its nodes are patterns: the variables
--- in the slots 0 (v) and 1 (w), the number 3, and then Pair(v, v), Pair(w, 3) and Pair(v, w).
-abbrev pub leaf : (kind reference : ℕ) → NodeRow
-leaf kind reference = record { kind = kind; reference = reference; count = 0; p1 = 0; p2 = 0; p3 = 0; p4 = 0 }
-
-abbrev pub pair_of : (a b : ℕ) → NodeRow
-pair_of a b = record { kind = 7; reference = 1; count = 2; p1 = a; p2 = b; p3 = 0; p4 = 0 }
-
-abbrev pub pairs : Content
-pairs = record {
+-- The models of the examples have one data: a first constructor without parts and, in row 1, `Pair` of two.
+abbrev pub with_pairs : List FunctionRow → List NodeRow → List BranchRow → Content
+with_pairs functions nodes branches = record {
   types = [];
   lists = [];
   constructors = record { number = 0; first = 0; count = 0 } ∷ record { number = 0; first = 0; count = 2 } ∷ [];
-  functions = [];
+  functions = functions;
   interfaces = [];
   signatures = [];
   classes = [];
   methods = [];
-  nodes = leaf 18 0 ∷ leaf 18 1 ∷ leaf 3 3 ∷ pair_of 0 0 ∷ pair_of 1 2 ∷ pair_of 0 1 ∷ [];
-  branches = [];
+  nodes = nodes;
+  branches = branches;
   statements = [];
 }
 
+-- nodes without children, with one and with two
+abbrev pub leaf : (kind reference : ℕ) → NodeRow
+leaf kind reference = record { kind = kind; reference = reference; count = 0; p1 = 0; p2 = 0; p3 = 0; p4 = 0 }
+
+abbrev pub over : (kind reference child : ℕ) → NodeRow
+over kind reference child = record { kind = kind; reference = reference; count = 1; p1 = child; p2 = 0; p3 = 0; p4 = 0 }
+
+abbrev pub over_two : (kind reference a b : ℕ) → NodeRow
+over_two kind reference a b = record { kind = kind; reference = reference; count = 2; p1 = a; p2 = b; p3 = 0; p4 = 0 }
+
+abbrev pub int : ℕ → NodeRow
+int n = leaf 3 n
+
+abbrev pub slot : ℕ → NodeRow
+slot k = leaf 5 k
+
+abbrev pub variable : ℕ → NodeRow
+variable k = leaf 18 k
+
+abbrev pub pair_of : (a b : ℕ) → NodeRow
+pair_of a b = over_two 7 1 a b
+
+-- Patterns: the variables in the slots 0 (v) and 1 (w), the number 3, and then Pair(v, v), Pair(w, 3) and Pair(v, w).
+abbrev pub pairs : Content
+pairs = with_pairs [] (variable 0 ∷ variable 1 ∷ int 3 ∷ pair_of 0 0 ∷ pair_of 1 2 ∷ pair_of 0 1 ∷ []) []
+
+-- the data Pair(x, y)
+abbrev pub pair_data : (x y : ℕ) → Data
+pair_data x y = record { constructor = 1; parts = value.Int (pos x) ∷ value.Int (pos y) ∷ [] }
+
 -- Cell 0 is Pair(1, 2), and cell 1 is Pair(2, 2).
 abbrev pub two_pairs : State
-two_pairs = record {
-  left = 10000;
-  cells = record { constructor = 1; parts = value.Int (pos 1) ∷ value.Int (pos 2) ∷ [] }
-      ∷ record { constructor = 1; parts = value.Int (pos 2) ∷ value.Int (pos 2) ∷ [] } ∷ [];
-}
+two_pairs = record { left = 10000; cells = pair_data 1 2 ∷ pair_data 2 2 ∷ [] }
 
 -- what a pattern answers of a cell, where nothing is bound
 abbrev pub tried : (row cell : ℕ) → Result (Option Environment) EvaluationRefusal
@@ -71,3 +92,33 @@ pub record MatchingExamples : Type 0 where
   pub twice_same : tried 3 1 ≡ Ok (Some (record { slot = 0; entry = value.Int (pos 2) } ∷ []))
   pub literal_differs : tried 4 0 ≡ Ok None
   pub both : tried 5 0 ≡ Ok (Some (record { slot = 1; entry = value.Int (pos 2) } ∷ record { slot = 0; entry = value.Int (pos 1) } ∷ []))
+
+-- The worth of a row, where all visits are left and no cell is in use. What is left behind shows what it cost.
+abbrev pub evaluated : Content → (row : ℕ) → Ending Value
+evaluated m row = carried_out m 1 (ask row []) (record { left = 10000; cells = [] })
+
+abbrev pub costs : (visits : ℕ) → List Data → State
+costs visits cells = record { left = 10000 - visits; cells = cells }
+
+-- `Pair(1, 2) == Pair(1, 3)`, in row 6, and `Pair(1, 2) == Pair(3, 2)`, in row 8
+abbrev pub equality : Content
+equality = with_pairs [] (int 1 ∷ int 2 ∷ pair_of 0 1 ∷ int 1 ∷ int 3 ∷ pair_of 3 4 ∷ over_two 14 0 2 5 ∷ pair_of 4 1 ∷ over_two 14 0 2 7 ∷ []) []
+
+-- A function of p with the body `case p { Pair(v, v) => v; Pair(w, 3) => w; Pair(v, w) => v + w }`, in row 15, where p, v and w are in
+-- the slots 0, 1 and 2; in row 19 the call of it with Pair(1, 2), and in row 21 with Pair(2, 2).
+abbrev pub case_of_pairs : Content
+case_of_pairs = with_pairs (record { result = 0; slots_first = 0; parameters = 1; slots = 3; body = 15 } ∷ [])
+    (variable 1 ∷ variable 1 ∷ pair_of 0 1 ∷ slot 1
+    ∷ variable 2 ∷ int 3 ∷ pair_of 4 5 ∷ slot 2
+    ∷ variable 1 ∷ variable 2 ∷ pair_of 8 9 ∷ slot 1 ∷ slot 2 ∷ over_two 10 0 11 12
+    ∷ slot 0 ∷ over 9 0 14
+    ∷ int 1 ∷ int 2 ∷ pair_of 16 17 ∷ over 8 0 18 ∷ pair_of 17 17 ∷ over 8 0 20 ∷ [])
+    (record { pattern = 2; body = 3; more = 1 } ∷ record { pattern = 6; body = 7; more = 1 } ∷ record { pattern = 10; body = 13; more = 0 } ∷ [])
+
+-- The first equality makes 10 visits and the second 9, with 2 cells each, and both are False. The first call makes 10 visits and is 3, the second
+-- makes 8 and is 2, with 1 cell each.
+pub record VisitExamples : Type 0 where
+  pub second_parts_differ : evaluated equality 6 ≡ ending (Ok (value.Bool false)) (costs 10 (pair_data 1 2 ∷ pair_data 1 3 ∷ []))
+  pub first_parts_differ : evaluated equality 8 ≡ ending (Ok (value.Bool false)) (costs 9 (pair_data 1 2 ∷ pair_data 3 2 ∷ []))
+  pub third_branch : evaluated case_of_pairs 19 ≡ ending (Ok (value.Int (pos 3))) (costs 10 (pair_data 1 2 ∷ []))
+  pub first_branch : evaluated case_of_pairs 21 ≡ ending (Ok (value.Int (pos 2))) (costs 8 (pair_data 2 2 ∷ []))

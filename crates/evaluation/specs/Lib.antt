@@ -2,10 +2,13 @@ pub mod Arithmetic
 pub mod Carried
 pub mod Evaluation
 pub mod Examples
+pub mod Laws
 pub mod Matching
 pub mod Plans
 pub mod Refusals
 pub mod Rules
+pub mod Sameness
 pub mod Stores
+pub mod Typed
 pub mod Values
 pub mod Views

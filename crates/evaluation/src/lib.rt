@@ -5,7 +5,10 @@ pub mod arithmetic;
 pub mod cells;
 pub mod evaluator;
 pub mod examples;
+pub mod laws;
 mod operators;
 pub mod refusal;
+#[cfg(test)]
+mod tests;
 pub mod value;
 pub mod workspace;

@@ -1,5 +1,5 @@
 //! Values, and the cells that hold data with parts.
-ghost use Rattle.std.specs.Prelude.{◌≡◌, []};
+ghost use Rattle.std.specs.Prelude.{◌≡◌, ◌≤◌, [], length};
 ghost use Rattle.evaluation.specs.declared.value.Value.TheVariants.{Unit};
 ghost use Rattle.evaluation.specs.Matching.{literal};
 ghost use Rattle.evaluation.specs.Values.{int_of, truth_of, cell_of, same_value, values_of, with_value};
@@ -68,6 +68,7 @@ impl Value {
     }
 
     /// Whether both are of one kind and hold the same.
+    #[inline(always)]
     pub(crate) fn same(self, other: Value) -> bool
         ensures same { result ≡ same_value self other }
     {
@@ -96,6 +97,7 @@ impl Values {
 
     pub fn as_slice(&self) -> &[Value]
         ensures values { result.now ≡ values_of self.now }
+        ensures few { length result.now ≤ 4 }
     {
         self.values.get(..self.count).unwrap_or(&self.values)
     }

@@ -25,10 +25,11 @@ use Rattle.model.proofs.Kept.{no_verdict}
 use Rattle.syntax.proofs.Parts.{agree_parts, passes_parts}
 use Rattle.typing.specs.declared.rule.TypingRule.{TypingRule}
 use Rattle.typing.specs.declared.rule.TypingRule.TheVariants as typing
+use Rattle.typing.specs.ExpressionLaws.{IsFunction, FunctionTyped}
 use Rattle.typing.specs.Statements.{goes_on}
 use Rattle.typing.specs.Typing.{placed_in, function_typed, statement_typed, untyped_in, typing_number, typing_case, typing_broken, typing_verdict}
 use Rattle.typing.proofs.StatementLaws.{inverts_statement}
-use Rattle.loading.specs.Laws.{IsFunction, IsClass, IsMethod, IsStatement, FunctionTyped, StatementTyped}
+use Rattle.loading.specs.Laws.{IsClass, IsMethod, IsStatement, StatementTyped}
 use Rattle.loading.specs.Types.{keeps_types}
 use Rattle.loading.proofs.Judging.{typing_complete, typing_rising}
 

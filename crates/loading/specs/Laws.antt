@@ -19,20 +19,16 @@ use Rattle.syntax.specs.Types.{type_at}
 use Rattle.typing.specs.declared.calls.Heading.{Heading}
 use Rattle.typing.specs.declared.rule.TypingRule.{TypingRule}
 use Rattle.typing.specs.declared.within.Within.{Within}
-use Rattle.typing.specs.declared.within.Within.TheVariants as within
-use Rattle.typing.specs.ExpressionLaws.{Inverts}
+use Rattle.typing.specs.ExpressionLaws.{Inverts, IsFunction, FunctionTyped}
 use Rattle.typing.specs.Expressions.{type_in, lists_type}
 use Rattle.typing.specs.PatternLaws.{InvertsPattern}
 use Rattle.typing.specs.Patterns.{pattern_scope}
-use Rattle.typing.specs.Scopes.{Bindings, entry_type, function_scope, method_scope}
+use Rattle.typing.specs.Scopes.{Bindings, entry_type, method_scope}
 use Rattle.typing.specs.StatementLaws.{InvertsStatement}
 use Rattle.typing.specs.Statements.{goes_on, heading_parameters, method_heading, method_named, signature_named}
 
 module _ (m : Content) where
-  -- a function, a class
-  abbrev pub IsFunction : FunctionRow → Type 0
-  IsFunction f = (i : ℕ) × (slice_get m.functions i ≡ Some f)
-
+  -- a class
   abbrev pub IsClass : ClassRow → Type 0
   IsClass c = (i : ℕ) × (slice_get m.classes i ≡ Some c)
 
@@ -42,10 +38,6 @@ module _ (m : Content) where
 
   abbrev pub IsStatement : MethodRow → StatementRow → Type 0
   IsStatement x y = (i : ℕ) × (slice_get m.statements i ≡ Some y) × (goes_on x i ≡ true)
-
-  -- A function's body has the type of its result.
-  abbrev pub FunctionTyped : FunctionRow → Type 0
-  FunctionTyped f = (t : ValueType) × (type_at m f.result ≡ Some t) × (type_in m (within.Function f) f.body (function_scope m f) ≡ Some t)
 
   -- A statement is of a known kind, and keeps the rule of that kind.
   abbrev pub StatementTyped : ClassRow → MethodRow → StatementRow → Type 0
@@ -72,7 +64,7 @@ module _ (m : Content) where
 
   -- Every function is typed, and every statement that is placed.
   pub record WellTyped : Type 0 where
-    pub functions : (f : FunctionRow) → IsFunction f → FunctionTyped f
+    pub functions : (f : FunctionRow) → IsFunction m f → FunctionTyped m f
     pub statements : (c : ClassRow) (x : MethodRow) (y : StatementRow) → IsClass c → IsMethod c x → IsStatement x y → StatementTyped c x y
 
   -- What the rules of an accepted model give. Kind by kind they say what a type and a fit mean; the rows of a method's range are

@@ -2,7 +2,7 @@
 ghost use Rattle.std.specs.Prelude.{◌≡◌};
 ghost use Rattle.tables.specs.Kinds.{known};
 ghost use Rattle.tables.specs.Layout.{content};
-ghost use Rattle.syntax.specs.Nodes.{parts, node_of, node_at};
+ghost use Rattle.syntax.specs.Nodes.{parts, children_of, node_of, node_at};
 
 use rules::search::part;
 use tables::kinds::{NodeKind, UnknownKind};
@@ -22,6 +22,17 @@ impl Parts {
         ensures parts { result.now ≡ parts self.now }
     {
         part(&self.rows, 0, self.count as usize)
+    }
+}
+
+/// The children of a node.
+#[inline(always)]
+pub fn children_of(row: &NodeRow) -> Parts
+    ensures children { result ≡ children_of row.now }
+{
+    Parts {
+        rows: [row.p1, row.p2, row.p3, row.p4],
+        count: row.count,
     }
 }
 
@@ -62,10 +73,7 @@ impl TryFrom<NodeRow> for Node {
 
     fn try_from(row: NodeRow) -> Result<Node, UnknownKind> {
         let (a, b) = (row.p1, row.p2);
-        let children = Parts {
-            rows: [row.p1, row.p2, row.p3, row.p4],
-            count: row.count,
-        };
+        let children = children_of(&row);
         let node = match NodeKind::try_from(row.kind)? {
             NodeKind::Unit => Node::Unit,
             NodeKind::False => Node::False,

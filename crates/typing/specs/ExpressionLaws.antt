@@ -20,14 +20,14 @@ use Rattle.typing.specs.declared.within.Within.{Within}
 use Rattle.typing.specs.declared.within.Within.TheVariants as within
 use Rattle.typing.specs.Expressions.{branches_of, function_parameters, lists_type, type_in}
 use Rattle.typing.specs.Patterns.{parameters_of, pattern_scope}
-use Rattle.typing.specs.Scopes.{Bindings, entry_type}
+use Rattle.typing.specs.Scopes.{Bindings, entry_type, function_scope}
 
--- Arguments that have the types of the parameters, one for one.
-abbrev pub ArgumentsFit : Content → (ℕ → ValueType → Type 0) → List ℕ → List ListRow → Type 0
+-- Arguments that have the types of the parameters, one for one; `has` tells what it is that an argument has a type.
+abbrev pub ArgumentsFit : {A : Type 0} → Content → (A → ValueType → Type 0) → List A → List ListRow → Type 0
 ArgumentsFit m has [] [] = ⊤
 ArgumentsFit m has [] (x ∷ xs) = ⊥
-ArgumentsFit m has (n ∷ ns) [] = ⊥
-ArgumentsFit m has (n ∷ ns) (x ∷ xs) = ((t : ValueType) × (entry_type m x ≡ Some t) × has n t) × ArgumentsFit m has ns xs
+ArgumentsFit m has (a ∷ rest) [] = ⊥
+ArgumentsFit m has (a ∷ rest) (x ∷ xs) = ((t : ValueType) × (entry_type m x ≡ Some t) × has a t) × ArgumentsFit m has rest xs
 
 module _ (m : Content) (w : Within) (row : ℕ) where
   -- an expression in a lower row has this type
@@ -89,3 +89,12 @@ module _ (m : Content) (w : Within) (row : ℕ) where
 -- A typed row is a node, whose kind says so much.
 abbrev pub Inverts : Content → Within → ℕ → Bindings → ValueType → Type 0
 Inverts m w row s t = (n : Node) × (node_at m row ≡ Some n) × TypedAs m w row s n t
+
+module _ (m : Content) where
+  -- a function
+  abbrev pub IsFunction : FunctionRow → Type 0
+  IsFunction f = (i : ℕ) × (slice_get m.functions i ≡ Some f)
+
+  -- A function's body has the type of its result.
+  abbrev pub FunctionTyped : FunctionRow → Type 0
+  FunctionTyped f = (t : ValueType) × (type_at m f.result ≡ Some t) × (type_in m (within.Function f) f.body (function_scope m f) ≡ Some t)

@@ -1,5 +1,5 @@
 //! Making cells, reading them, and cutting back to earlier ones.
-ghost use Rattle.std.specs.Prelude.{◌≡◌, [], length, take, IfOk};
+ghost use Rattle.std.specs.Prelude.{◌≡◌, [], length, take, option_copied, IfOk};
 ghost use Rattle.std.specs.List.{slice_get};
 ghost use Rattle.std.specs.Option.{option_map};
 ghost use Rattle.evaluation.specs.Values.{data_of};
@@ -35,7 +35,14 @@ impl Cells {
     pub fn read(&self, number: u16) -> Option<Cell>
         ensures held { option_map data_of result ≡ slice_get (held self.now) number }
     {
-        self.cells.get(number as usize).copied()
+        self.lend(number).copied()
+    }
+
+    /// The same, without a copy.
+    pub(crate) fn lend(&self, number: u16) -> Option<&Cell>
+        ensures held { option_map data_of (option_copied result) ≡ slice_get (held self.now) number }
+    {
+        self.cells.get(number as usize)
     }
 
     /// A new cell, and its number; where all are in use, nothing changes.

@@ -1,19 +1,24 @@
 //! Data, calls of functions, and cases.
-ghost use Rattle.std.specs.Prelude.{◌≡◌, suc, ◌+◌, ◌*◌, ◌≤◌, length};
+ghost use Rattle.std.specs.Prelude.{◌≡◌, suc, ◌+◌, ◌*◌, ◌≤◌, length, take, drop};
 ghost use Rattle.std.specs.List.{slice_get};
 ghost use Rattle.tables.specs.Layout.{content};
+ghost use Rattle.placement.specs.Holders.{run_length};
 ghost use Rattle.syntax.specs.declared.nodes.Node.TheVariants as node;
+ghost use Rattle.syntax.specs.Nodes.{children_of};
+ghost use Rattle.syntax.specs.Rows.{when};
 ghost use Rattle.evaluation.specs.Carried.{Ran, Adds, environment};
+ghost use Rattle.evaluation.specs.Refusals.{answered};
 ghost use Rattle.evaluation.specs.Rules.{node_rule, built, bound_from, called, chosen, taken};
 ghost use Rattle.evaluation.specs.Values.{values_of};
 
 use crate::evaluator::Evaluator;
+use crate::evaluator::worths::give;
 use crate::refusal::EvaluationRefusal;
 use crate::value::{Cell, Value, Values};
 use crate::workspace::Workspace;
-use syntax::nodes::Parts;
-use tables::rows::{BranchRow, FunctionRow};
-use typing::declared::branches_of;
+use syntax::nodes::children_of;
+use tables::rows::{BranchRow, FunctionRow, NodeRow};
+use tables::tables::Tables;
 
 /// Binds arguments to the slots from 0 on.
 fn bind_arguments(work: &mut Workspace<'_, '_>, arguments: &[Value])
@@ -28,6 +33,13 @@ fn bind_arguments(work: &mut Workspace<'_, '_>, arguments: &[Value])
         work.bind(slot, *argument);
         slot += 1;
     }
+}
+
+/// The branches from this one on, of which the first are those of its case.
+fn branches_from(t: &Tables, first: u16) -> &[BranchRow]
+    ensures branches { result.now ≡ drop first (content t.now).branches }
+{
+    t.branches.get(first as usize..).unwrap_or(&[])
 }
 
 impl Evaluator<'_> {
@@ -58,14 +70,15 @@ impl Evaluator<'_> {
         &self,
         work: &mut Workspace<'_, '_>,
         base: usize,
-        constructor: u16,
-        children: Parts,
-    ) -> Result<Value, EvaluationRefusal>
+        row: &NodeRow,
+        worth: &mut Value,
+    ) -> Result<(), EvaluationRefusal>
         requires own { base ≤ length work.old.bindings }
-        ensures ran { Ran (content self.now.t.now) self.now.this (node_rule (content self.now.t.now) self.now.this (environment base work.old) (node.Constructor constructor children)) work.old result work.new }
+        ensures ran { Ran (content self.now.t.now) self.now.this (node_rule (content self.now.t.now) self.now.this (environment base work.old) (node.Constructor row.now.reference (children_of row.now))) work.old (answered (λ _. worth.new) result) work.new }
     {
-        let parts = self.worths(work, base, children.as_slice())?;
-        self.built(work, constructor, parts)
+        let mut parts = Values::new();
+        self.worths(work, base, children_of(row).as_slice(), &mut parts)?;
+        give(worth, self.built(work, row.reference, parts)?)
     }
 
     #[cycle(worths)]
@@ -73,17 +86,18 @@ impl Evaluator<'_> {
         &self,
         work: &mut Workspace<'_, '_>,
         base: usize,
-        function: u16,
-        arguments: Parts,
-    ) -> Result<Value, EvaluationRefusal>
+        row: &NodeRow,
+        worth: &mut Value,
+    ) -> Result<(), EvaluationRefusal>
         requires own { base ≤ length work.old.bindings }
         requires slack { length work.old.bindings + 4 * suc work.old.state.left ≤ work.old.capacity }
-        ensures ran { Ran (content self.now.t.now) self.now.this (node_rule (content self.now.t.now) self.now.this (environment base work.old) (node.Function function arguments)) work.old result work.new }
+        ensures ran { Ran (content self.now.t.now) self.now.this (node_rule (content self.now.t.now) self.now.this (environment base work.old) (node.Function row.now.reference (children_of row.now))) work.old (answered (λ _. worth.new) result) work.new }
     {
-        let arguments = self.worths(work, base, arguments.as_slice())?;
-        match self.function_at(function) {
-            Some(function) => self.called(work, function, arguments.as_slice()),
-            None => Ok(Value::Unit),
+        let mut arguments = Values::new();
+        self.worths(work, base, children_of(row).as_slice(), &mut arguments)?;
+        match self.function_at(row.reference) {
+            Some(function) => self.called(work, function, arguments.as_slice(), worth),
+            None => give(worth, Value::Unit),
         }
     }
 
@@ -94,16 +108,17 @@ impl Evaluator<'_> {
         work: &mut Workspace<'_, '_>,
         function: FunctionRow,
         arguments: &[Value],
-    ) -> Result<Value, EvaluationRefusal>
+        worth: &mut Value,
+    ) -> Result<(), EvaluationRefusal>
         requires slack { length work.old.bindings + 4 * suc work.old.state.left ≤ work.old.capacity }
         requires few { length arguments.now ≤ 4 }
-        ensures ran { Ran (content self.now.t.now) self.now.this (called (Some function) arguments.now) work.old result work.new }
+        ensures ran { Ran (content self.now.t.now) self.now.this (called (Some function) arguments.now) work.old (answered (λ _. worth.new) result) work.new }
     {
         let earlier = work.length();
         bind_arguments(work, arguments);
-        let worth = self.worth(work, earlier, function.body);
+        let ran = self.worth(work, earlier, function.body, worth);
         work.cut(earlier);
-        worth
+        ran
     }
 
     #[cycle(worths)]
@@ -113,53 +128,60 @@ impl Evaluator<'_> {
         base: usize,
         examined: u16,
         first: u16,
-    ) -> Result<Value, EvaluationRefusal>
+        worth: &mut Value,
+    ) -> Result<(), EvaluationRefusal>
         requires own { base ≤ length work.old.bindings }
         requires slack { length work.old.bindings + 4 * suc work.old.state.left ≤ work.old.capacity }
-        ensures ran { Ran (content self.now.t.now) self.now.this (node_rule (content self.now.t.now) self.now.this (environment base work.old) (node.Case examined first)) work.old result work.new }
+        ensures ran { Ran (content self.now.t.now) self.now.this (node_rule (content self.now.t.now) self.now.this (environment base work.old) (node.Case examined first)) work.old (answered (λ _. worth.new) result) work.new }
     {
-        let value = self.worth(work, base, examined)?;
-        self.chosen(work, base, value, branches_of(self.t, first))
+        let mut value = Value::Unit;
+        self.worth(work, base, examined, &mut value)?;
+        self.chosen(work, base, &value, branches_from(self.t, first), worth)
     }
 
-    /// The worth of the first branch that fits the value.
+    /// The worth of the first branch that fits the value, of the case that begins with the first of these.
     #[cycle(worths)]
     fn chosen(
         &self,
         work: &mut Workspace<'_, '_>,
         base: usize,
-        value: Value,
+        value: &Value,
         branches: &[BranchRow],
-    ) -> Result<Value, EvaluationRefusal>
+        worth: &mut Value,
+    ) -> Result<(), EvaluationRefusal>
         requires own { base ≤ length work.old.bindings }
         requires slack { length work.old.bindings + 4 * suc (suc work.old.state.left) ≤ work.old.capacity }
-        ensures ran { Ran (content self.now.t.now) self.now.this (chosen (content self.now.t.now) self.now.this (environment base work.old) value branches.now) work.old result work.new }
+        ensures ran { Ran (content self.now.t.now) self.now.this (chosen (content self.now.t.now) self.now.this (environment base work.old) value.now (take (run_length branches.now) branches.now)) work.old (answered (λ _. worth.new) result) work.new }
     {
         for branch in branches {
-            if let Some(worth) = self.branch_worth(work, base, value, *branch)? {
-                return Ok(worth);
+            if self.branch_worth(work, base, value, *branch, worth)? {
+                return Ok(());
+            }
+            if branch.more != 1 {
+                return Err(EvaluationRefusal::NoBranch);
             }
         }
         Err(EvaluationRefusal::NoBranch)
     }
 
-    /// The worth of a branch's body, if its pattern fits; what the pattern bound does not outlive it.
+    /// Whether the branch's pattern fits, and then the worth of its body; what the pattern bound does not outlive it.
     #[cycle(worths)]
     fn branch_worth(
         &self,
         work: &mut Workspace<'_, '_>,
         base: usize,
-        value: Value,
+        value: &Value,
         branch: BranchRow,
-    ) -> Result<Option<Value>, EvaluationRefusal>
+        worth: &mut Value,
+    ) -> Result<bool, EvaluationRefusal>
         requires own { base ≤ length work.old.bindings }
         requires slack { length work.old.bindings + 4 * suc (suc work.old.state.left) ≤ work.old.capacity }
-        ensures ran { Ran (content self.now.t.now) self.now.this (taken (content self.now.t.now) self.now.this (environment base work.old) value branch) work.old result work.new }
+        ensures ran { Ran (content self.now.t.now) self.now.this (taken (content self.now.t.now) self.now.this (environment base work.old) value.now branch) work.old (answered (λ b. when b (Some worth.new)) result) work.new }
     {
         let before = work.length();
-        let worth = self.taken(work, base, value, branch);
+        let taken = self.taken(work, base, value, branch, worth);
         work.cut(before);
-        worth
+        taken
     }
 
     /// The same, with what the pattern bound.
@@ -168,16 +190,18 @@ impl Evaluator<'_> {
         &self,
         work: &mut Workspace<'_, '_>,
         base: usize,
-        value: Value,
+        value: &Value,
         branch: BranchRow,
-    ) -> Result<Option<Value>, EvaluationRefusal>
+        worth: &mut Value,
+    ) -> Result<bool, EvaluationRefusal>
         requires own { base ≤ length work.old.bindings }
         requires slack { length work.old.bindings + 4 * suc (suc work.old.state.left) ≤ work.old.capacity }
-        ensures adds { Adds (content self.now.t.now) self.now.this (taken (content self.now.t.now) self.now.this (environment base work.old) value branch) work.old result work.new }
+        ensures adds { Adds (content self.now.t.now) self.now.this (taken (content self.now.t.now) self.now.this (environment base work.old) value.now branch) work.old (answered (λ b. when b (Some worth.new)) result) work.new }
     {
         if !self.fits(work, base, branch.pattern, value)? {
-            return Ok(None);
+            return Ok(false);
         }
-        Ok(Some(self.worth(work, base, branch.body)?))
+        self.worth(work, base, branch.body, worth)?;
+        Ok(true)
     }
 }

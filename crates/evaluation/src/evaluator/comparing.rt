@@ -6,6 +6,7 @@ ghost use Rattle.evaluation.specs.Carried.{Ran};
 ghost use Rattle.evaluation.specs.Plans.{compare};
 ghost use Rattle.evaluation.specs.Refusals.{answered};
 ghost use Rattle.evaluation.specs.Rules.{pair_rule, same_cells, same_parts};
+ghost use Rattle.evaluation.specs.Sameness.{TellsSame};
 
 use crate::evaluator::Evaluator;
 use crate::refusal::EvaluationRefusal;
@@ -22,6 +23,7 @@ impl Evaluator<'_> {
         w: Value,
     ) -> Result<bool, EvaluationRefusal>
         ensures ran { Ran (content self.now.t.now) self.now.this (compare v w) work.old (answered Bool result) work.new }
+        ensures tells_same { TellsSame work.old.state.cells v w result }
     {
         work.spend()?;
         self.same_values(work, v, w)
@@ -44,6 +46,8 @@ impl Evaluator<'_> {
     }
 
     /// Whether two cells hold the same.
+    // apart from `same`, which mostly compares values that are no cells
+    #[inline(never)]
     #[cycle(comparing)]
     fn same_cells(
         &self,
@@ -59,7 +63,8 @@ impl Evaluator<'_> {
         if a.constructor != b.constructor {
             return Ok(false);
         }
-        self.same_parts(work, a.parts.as_slice(), b.parts.as_slice())
+        let (vs, ws) = (a.parts, b.parts);
+        self.same_parts(work, vs.as_slice(), ws.as_slice())
     }
 
     /// Whether the parts are the same, up to the first difference.
@@ -81,17 +86,5 @@ impl Evaluator<'_> {
             }
         }
         Ok(true)
-    }
-
-    /// Whether the two values are the same, as a value.
-    pub(crate) fn sameness(
-        &self,
-        work: &mut Workspace<'_, '_>,
-        v: Value,
-        w: Value,
-    ) -> Result<Value, EvaluationRefusal>
-        ensures ran { Ran (content self.now.t.now) self.now.this (compare v w) work.old result work.new }
-    {
-        Ok(Value::Bool(self.same(work, v, w)?))
     }
 }

@@ -2,6 +2,7 @@
 ghost use Rattle.tables.specs.Layout.{content};
 ghost use Rattle.evaluation.specs.Carried.{Evaluates};
 ghost use Rattle.evaluation.specs.Plans.{ask};
+ghost use Rattle.evaluation.specs.Typed.{KeepsTypes};
 
 use crate::evaluator::Evaluator;
 use crate::refusal::EvaluationRefusal;
@@ -16,12 +17,14 @@ impl Evaluator<'_> {
         row: u16,
     ) -> Result<Value, EvaluationRefusal>
         ensures evaluates { Evaluates (content self.now.t.now) self.now.this (ask row work.old.bindings) work.old result work.new }
+        ensures keeps_types { KeepsTypes (content self.now.t.now) self.now.this row work.old result work.new }
     {
         let cells = work.cells();
-        let worth = self.worth(work, 0, row);
-        if worth.is_err() {
+        let mut worth = Value::Unit;
+        if let Err(refusal) = self.worth(work, 0, row, &mut worth) {
             work.cut_cells(cells);
+            return Err(refusal);
         }
-        worth
+        Ok(worth)
     }
 }

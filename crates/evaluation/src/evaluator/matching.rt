@@ -1,19 +1,21 @@
 //! Patterns: whether they fit a value, and what they bind.
 ghost use Rattle.std.specs.Prelude.{◌≡◌, ◌+◌, ◌*◌, ◌≤◌, length};
-ghost use Rattle.std.specs.Option.{option_map};
 ghost use Rattle.mapping.specs.Bindings.{lookup};
 ghost use Rattle.tables.specs.Layout.{content};
 ghost use Rattle.typing.specs.Room.{free};
+ghost use Rattle.syntax.specs.Nodes.{children_of, node_of};
+ghost use Rattle.evaluation.specs.declared.value.Value.TheVariants.{Cell};
 ghost use Rattle.evaluation.specs.Carried.{Tried, environment};
-ghost use Rattle.evaluation.specs.Matching.{constructor_fit, fit_of, fit_rule, parts_fit, variable_fit};
-ghost use Rattle.evaluation.specs.Values.{data_of};
-ghost use Rattle.evaluation.specs.Views.{lower_fits, data_in};
+ghost use Rattle.evaluation.specs.Matching.{constructor_fit, fit_known, fit_of, parts_fit, variable_fit};
+ghost use Rattle.evaluation.specs.Views.{lower_fits};
 
 use crate::evaluator::Evaluator;
 use crate::refusal::EvaluationRefusal;
-use crate::value::{Cell, Value, Values, literal};
+use crate::value::{Value, literal};
 use crate::workspace::Workspace;
-use syntax::nodes::{Node, Parts, node_at};
+use syntax::nodes::children_of;
+use tables::kinds::NodeKind;
+use tables::rows::NodeRow;
 
 /// How many slots a function has at most.
 const SLOTS: u16 = 8;
@@ -25,65 +27,54 @@ struct Place {
     row: u16,
 }
 
-/// The data that a value is, with its parts.
-fn data(work: &Workspace<'_, '_>, value: Value) -> Option<Cell>
-    ensures data { option_map data_of result ≡ data_in work.now.state.cells value }
-{
-    match value {
-        Value::Constant(constructor) => Some(Cell {
-            constructor,
-            parts: Values::new(),
-        }),
-        Value::Cell(cell) => work.read(cell),
-        _ => None,
-    }
-}
-
 // What a pattern has bound stays bound where it does not fit: the caller cuts it off.
 impl Evaluator<'_> {
     /// Whether the pattern in this row fits the value; it binds its variables, left to right.
+    #[inline(always)]
     #[cycle(matching)]
     pub(crate) fn fits(
         &self,
         work: &mut Workspace<'_, '_>,
         base: usize,
         row: u16,
-        value: Value,
+        value: &Value,
     ) -> Result<bool, EvaluationRefusal>
         requires own { base ≤ length work.old.bindings }
         requires room { length work.old.bindings + free 8 (environment base work.old) + 4 * work.old.state.left ≤ work.old.capacity }
-        ensures tried { Tried (content self.now.t.now) self.now.this (fit_of (content self.now.t.now) row (environment base work.old) value) base work.old result work.new }
+        ensures tried { Tried (content self.now.t.now) self.now.this (fit_of (content self.now.t.now) row (environment base work.old) value.now) base work.old result work.new }
     {
-        let Some(node) = node_at(self.t, row) else {
+        let Some(pattern) = self.row_at(row) else {
             return Ok(false);
         };
-        self.node_fits(work, Place { base, row }, node, value)
+        self.node_fits(work, Place { base, row }, pattern, value)
     }
 
     /// The same of a node, whose children stand below this row.
+    #[inline(always)]
     #[cycle(matching)]
     fn node_fits(
         &self,
         work: &mut Workspace<'_, '_>,
         at: Place,
-        node: Node,
-        value: Value,
+        pattern: &NodeRow,
+        value: &Value,
     ) -> Result<bool, EvaluationRefusal>
         requires own { at.base ≤ length work.old.bindings }
         requires room { length work.old.bindings + free 8 (environment at.base work.old) + 4 * work.old.state.left ≤ work.old.capacity }
-        ensures tried { Tried (content self.now.t.now) self.now.this (fit_rule (lower_fits self.now at.row) (environment at.base work.old) value node) at.base work.old result work.new }
+        ensures tried { Tried (content self.now.t.now) self.now.this (fit_known (lower_fits self.now at.row) (environment at.base work.old) value.now (node_of pattern.now)) at.base work.old result work.new }
     {
-        match node {
-            Node::Unit => Ok(Value::Unit.same(value)),
-            Node::False => Ok(Value::Bool(false).same(value)),
-            Node::True => Ok(Value::Bool(true).same(value)),
-            Node::Int(n) => Ok(literal(n).same(value)),
-            Node::Null(_) => Ok(Value::Null.same(value)),
-            Node::Constructor(constructor, children) => {
-                self.constructor_fits(work, at, constructor, children, value)
-            }
-            Node::Variable(slot) => self.variable_fits(work, at.base, slot, value),
-            Node::Wildcard => Ok(true),
+        let Ok(kind) = NodeKind::try_from(pattern.kind) else {
+            return Ok(false);
+        };
+        match kind {
+            NodeKind::Unit => Ok(Value::Unit.same(*value)),
+            NodeKind::False => Ok(Value::Bool(false).same(*value)),
+            NodeKind::True => Ok(Value::Bool(true).same(*value)),
+            NodeKind::Int => Ok(literal(pattern.reference).same(*value)),
+            NodeKind::Null => Ok(Value::Null.same(*value)),
+            NodeKind::Constructor => self.constructor_fits(work, at, pattern, value),
+            NodeKind::Variable => self.variable_fits(work, at.base, pattern.reference, value),
+            NodeKind::Wildcard => Ok(true),
             _ => Ok(false),
         }
     }
@@ -94,21 +85,43 @@ impl Evaluator<'_> {
         &self,
         work: &mut Workspace<'_, '_>,
         at: Place,
-        constructor: u16,
-        children: Parts,
-        value: Value,
+        pattern: &NodeRow,
+        value: &Value,
     ) -> Result<bool, EvaluationRefusal>
         requires own { at.base ≤ length work.old.bindings }
         requires room { length work.old.bindings + free 8 (environment at.base work.old) + 4 * work.old.state.left ≤ work.old.capacity }
-        ensures tried { Tried (content self.now.t.now) self.now.this (constructor_fit (lower_fits self.now at.row) (environment at.base work.old) constructor children value) at.base work.old result work.new }
+        ensures tried { Tried (content self.now.t.now) self.now.this (constructor_fit (lower_fits self.now at.row) (environment at.base work.old) pattern.now.reference (children_of pattern.now) value.now) at.base work.old result work.new }
     {
-        let Some(data) = data(work, value) else {
+        match *value {
+            Value::Constant(constructor) => {
+                Ok(constructor == pattern.reference && pattern.count == 0)
+            }
+            Value::Cell(cell) => self.cell_fits(work, at, pattern, cell),
+            _ => Ok(false),
+        }
+    }
+
+    /// Whether the cell holds data of the constructor, whose parts fit.
+    #[cycle(matching)]
+    fn cell_fits(
+        &self,
+        work: &mut Workspace<'_, '_>,
+        at: Place,
+        pattern: &NodeRow,
+        cell: u16,
+    ) -> Result<bool, EvaluationRefusal>
+        requires own { at.base ≤ length work.old.bindings }
+        requires room { length work.old.bindings + free 8 (environment at.base work.old) + 4 * work.old.state.left ≤ work.old.capacity }
+        ensures tried { Tried (content self.now.t.now) self.now.this (constructor_fit (lower_fits self.now at.row) (environment at.base work.old) pattern.now.reference (children_of pattern.now) (Cell cell)) at.base work.old result work.new }
+    {
+        let Some(data) = work.read(cell) else {
             return Ok(false);
         };
-        if data.constructor != constructor {
+        if data.constructor != pattern.reference {
             return Ok(false);
         }
-        self.parts_fit(work, at, children.as_slice(), data.parts.as_slice())
+        let parts = data.parts;
+        self.parts_fit(work, at, children_of(pattern).as_slice(), parts.as_slice())
     }
 
     /// Whether the parts fit the children, left to right, one for one.
@@ -128,7 +141,7 @@ impl Evaluator<'_> {
             return Ok(false);
         }
         for (child, part) in children.iter().zip(parts) {
-            if !self.child_fits(work, at, *child, *part)? {
+            if !self.child_fits(work, at, *child, part)? {
                 return Ok(false);
             }
         }
@@ -142,11 +155,11 @@ impl Evaluator<'_> {
         work: &mut Workspace<'_, '_>,
         at: Place,
         child: u16,
-        part: Value,
+        part: &Value,
     ) -> Result<bool, EvaluationRefusal>
         requires own { at.base ≤ length work.old.bindings }
         requires room { length work.old.bindings + free 8 (environment at.base work.old) + 4 * work.old.state.left ≤ work.old.capacity }
-        ensures tried { Tried (content self.now.t.now) self.now.this (lower_fits self.now at.row child (environment at.base work.old) part) at.base work.old result work.new }
+        ensures tried { Tried (content self.now.t.now) self.now.this (lower_fits self.now at.row child (environment at.base work.old) part.now) at.base work.old result work.new }
     {
         if child >= at.row {
             return Ok(false);
@@ -155,24 +168,25 @@ impl Evaluator<'_> {
     }
 
     /// Whether the variable is bound to the same value, or else could be bound to this one; it is bound then.
+    #[inline(always)]
     fn variable_fits(
         &self,
         work: &mut Workspace<'_, '_>,
         base: usize,
         slot: u16,
-        value: Value,
+        value: &Value,
     ) -> Result<bool, EvaluationRefusal>
         requires own { base ≤ length work.old.bindings }
         requires room { length work.old.bindings + free 8 (environment base work.old) + 4 * work.old.state.left ≤ work.old.capacity }
-        ensures tried { Tried (content self.now.t.now) self.now.this (variable_fit (environment base work.old) slot value (lookup slot (environment base work.old))) base work.old result work.new }
+        ensures tried { Tried (content self.now.t.now) self.now.this (variable_fit (environment base work.old) slot value.now (lookup slot (environment base work.old))) base work.old result work.new }
     {
         if let Some(bound) = work.find(base, slot) {
-            return self.same(work, bound, value);
+            return self.same(work, bound, *value);
         }
         if slot >= SLOTS {
             return Ok(false);
         }
-        work.bind(slot, value);
+        work.bind(slot, *value);
         Ok(true)
     }
 }

@@ -1,5 +1,5 @@
 //! Making a workspace; spending visits, binding slots, and making cells in it.
-ghost use Rattle.std.specs.Prelude.{◌≡◌, suc, ◌+◌, ◌-◌, ◌*◌, ◌≤◌, ◌<◌, cond, ◌==◌, ◌∷◌, length, take, Ok, Err, nat_le, is_some, IfOk, IfSome};
+ghost use Rattle.std.specs.Prelude.{◌≡◌, suc, ◌+◌, ◌-◌, ◌*◌, ◌≤◌, ◌<◌, cond, ◌==◌, ◌∷◌, length, take, Ok, Err, nat_le, is_some, option_copied, IfOk, IfSome};
 ghost use Rattle.std.specs.List.{slice_get};
 ghost use Rattle.std.specs.Option.{option_map};
 ghost use Rattle.mapping.specs.Bindings.{lookup, since, oldest, bound, capacity};
@@ -44,7 +44,7 @@ impl<'a, 'b> Workspace<'a, 'b> {
     }
 
     /// How many cells are in use.
-    pub(crate) fn cells(&self) -> usize
+    pub fn cells(&self) -> usize
         ensures cells { result ≡ length self.now.state.cells }
     {
         self.cells.length()
@@ -68,6 +68,7 @@ impl<'a, 'b> Workspace<'a, 'b> {
     }
 
     /// The value of the slot among the bindings made since there were `base`.
+    #[inline(always)]
     pub(crate) fn find(&self, base: usize, slot: u16) -> Option<Value>
         ensures found { result ≡ lookup slot (since base self.now.bindings) }
     {
@@ -107,10 +108,10 @@ impl<'a, 'b> Workspace<'a, 'b> {
     }
 
     /// What the cell holds, if it is in use.
-    pub(crate) fn read(&self, cell: u16) -> Option<Cell>
-        ensures held { option_map data_of result ≡ slice_get self.now.state.cells cell }
+    pub(crate) fn read(&self, cell: u16) -> Option<&Cell>
+        ensures held { option_map data_of (option_copied result) ≡ slice_get self.now.state.cells cell }
     {
-        self.cells.read(cell)
+        self.cells.lend(cell)
     }
 
     /// A new cell, and its number.

@@ -34,11 +34,12 @@ impl<'a, E: Blank> Mapping<'a, E> {
     }
 
     /// The newest entry of the slot among the bindings that were made since there were `earlier` of them.
+    #[inline(always)]
     pub fn find(&self, earlier: usize, slot: u16) -> Option<E>
         ensures newest { result ≡ lookup slot (since earlier (bound self.now)) }
     {
-        self.bindings
-            .get(earlier..self.count)?
+        let first = earlier.min(self.count);
+        self.bindings[first..self.count]
             .iter()
             .rev()
             .find(|b| b.slot == slot)
@@ -67,12 +68,13 @@ impl<'a, E: Blank> Mapping<'a, E> {
         ensures blank { memory self.new ≡ blanked E.Blank.blank earlier (length (bound self.old)) (memory self.old) }
         ensures capacity { capacity self.new ≡ capacity self.old }
     {
-        let kept = earlier.min(self.count);
-        // not `fill`, which asks for a clone that cannot fail: an entry's `Copy` does not promise that
-        self.bindings[kept..self.count].fill_with(|| Binding {
-            slot: 0,
-            entry: E::blank(),
-        });
-        self.count = kept;
+        // not `fill`, which calls a function of the C library: most cuts take away one or two
+        while self.count > earlier {
+            self.count -= 1;
+            self.bindings[self.count] = Binding {
+                slot: 0,
+                entry: E::blank(),
+            };
+        }
     }
 }

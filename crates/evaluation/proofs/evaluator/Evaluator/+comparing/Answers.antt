@@ -5,18 +5,21 @@ use Rattle.tables.specs.Layout.{content}
 use Rattle.evaluation.specs.declared.value.Value.TheVariants.{Bool}
 use Rattle.evaluation.specs.Plans.{pair}
 use Rattle.evaluation.proofs.Carrying.{cells_read, ran_done, ran_unpaid, ran_paid, ran_pair_same, ran_pair_differs, ran_pair_refused, ran_no_pair, ran_plain}
+use Rattle.evaluation.proofs.Sameness.{comparison_told}
 use Rattle.evaluation.proofs.evaluator.Evaluator.+comparing.Goals as goal
 use Rattle.evaluation.proofs.evaluator.Evaluator.+comparing.Goals.{same_values-in_default-via-in-Some+in_default, same_values-in_default-via-in_default}
 
 pub same-returns-in_err-spend : goal.same-returns-in_err-spend
 same-returns-in_err-spend t c =
     let p = err_from_is_err_and c.from_residual.result c.from_residual.ensures.1 in
-    rw (p.1, p.2) (record { ran = ran_unpaid (content c.args.self.now.t.now) c.args.self.now.this (pair c.args.v c.args.w) c.spend.ensures.pays c.in_err-spend.was })
+    rw (p.1, p.2) (record { ran = ran_unpaid (content c.args.self.now.t.now) c.args.self.now.this (pair c.args.v c.args.w) c.spend.ensures.pays c.in_err-spend.was; tells_same = tt })
 
 pub same-returns : goal.same-returns
-same-returns t c = record {
-  ran = ran_paid (content c.args.self.now.t.now) c.args.self.now.this (pair c.args.v c.args.w) c.spend.ensures.pays c.in_ok-spend.was c.same_values.ensures.ran;
-}
+same-returns t c =
+    let m = content c.args.self.now.t.now in
+    let this = c.args.self.now.this in
+    let ran = ran_paid m this (pair c.args.v c.args.w) c.spend.ensures.pays c.in_ok-spend.was c.same_values.ensures.ran in
+    record { ran = ran; tells_same = comparison_told m this c.args.v c.args.w c.same_values.result ran }
 
 -- the cells that were read
 pub same_cells-returns-in_default : goal.same_cells-returns-in_default
@@ -32,7 +35,7 @@ pub same_cells-returns-then-a-b : goal.same_cells-returns-then-a-b
 same_cells-returns-then-a-b t c =
     record {
       ran = cells_read _ _ c.in-Some-Some.ensures.held c.in-Some-Some.ensures'.held
-          (rw (ne_eqb c.in-Some-Some.a.constructor c.in-Some-Some.b.constructor c.if-a-b.true) (ran_done _ _ (Bool false) c.args.work.now));
+          (rw (ne_eqb c.in-Some-Some.a.now.constructor c.in-Some-Some.b.now.constructor c.if-a-b.true) (ran_done _ _ (Bool false) c.args.work.now));
     }
 
 pub same_cells-returns : goal.same_cells-returns
@@ -40,7 +43,7 @@ same_cells-returns t c =
     let h = c.same_parts.ensures.ran in
     record {
       ran = cells_read _ _ c.in-Some-Some.ensures.held c.in-Some-Some.ensures'.held
-          (rw (eq-eqb c.in-Some-Some.a.constructor c.in-Some-Some.b.constructor c.if-a-b.false) (rw (c.as_slice.ensures.values, c.as_slice-2.ensures.values) at h));
+          (rw (eq-eqb c.in-Some-Some.a.now.constructor c.in-Some-Some.b.now.constructor c.if-a-b.false) (rw (c.as_slice.ensures.values, c.as_slice-2.ensures.values) at h));
     }
 
 pub same_parts-returns-then-vs-ws : goal.same_parts-returns-then-vs-ws

@@ -10,19 +10,22 @@ use Rattle.evaluation.proofs.evaluator.Evaluator.+matching.Given as goal
 
 -- the row falls from a pattern to its children; within a row the calls go in this order
 abbrev pub decreases-fits : goal.decreases-fits
-decreases-fits l = 5 * l.row + 4
+decreases-fits l = 6 * l.row + 5
 
 abbrev pub decreases-node_fits : goal.decreases-node_fits
-decreases-node_fits l = 5 * l.at.row + 3
+decreases-node_fits l = 6 * l.at.row + 4
 
 abbrev pub decreases-constructor_fits : goal.decreases-constructor_fits
-decreases-constructor_fits l = 5 * l.at.row + 2
+decreases-constructor_fits l = 6 * l.at.row + 3
+
+abbrev pub decreases-cell_fits : goal.decreases-cell_fits
+decreases-cell_fits l = 6 * l.at.row + 2
 
 abbrev pub decreases-parts_fit : goal.decreases-parts_fit
-decreases-parts_fit l = 5 * l.at.row + 1
+decreases-parts_fit l = 6 * l.at.row + 1
 
 abbrev pub decreases-child_fits : goal.decreases-child_fits
-decreases-child_fits l = 5 * l.at.row
+decreases-child_fits l = 6 * l.at.row
 
 -- what the children that are left answer is what all answer; the activation's bindings are there, with room for the slots that it
 -- has not bound; as many parts are left

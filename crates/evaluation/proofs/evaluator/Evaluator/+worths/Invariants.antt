@@ -1,9 +1,10 @@
-use Rattle.std.proofs.Common.{◌≡◌, ◌+◌, ◌*◌, ◌≤◌, List, length, drop, Result}
+use Rattle.std.proofs.Common.{◌≡◌, ◌+◌, ◌*◌, ◌≤◌, List, length, take, drop, Result}
+use Rattle.placement.specs.Holders.{run_length}
 use Rattle.tables.specs.Layout.{content}
 use Rattle.evaluation.specs.declared.refusal.EvaluationRefusal.{EvaluationRefusal}
 use Rattle.evaluation.specs.declared.value.Value.{Value}
 use Rattle.evaluation.specs.Carried.{Ran, Work, environment}
-use Rattle.evaluation.specs.Rules.{all_of, gathered, chosen}
+use Rattle.evaluation.specs.Rules.{gathered, chosen}
 use Rattle.evaluation.specs.Values.{values_of}
 use Rattle.evaluation.proofs.evaluator.Evaluator.+worths.Given as goal
 
@@ -67,18 +68,18 @@ abbrev pub invariant-worths-loop-row : goal.invariant-worths-loop-row
 invariant-worths-loop-row l = record {
   rest : (r : Result (List Value) EvaluationRefusal) (after : Work) →
       Ran (content l.self.t.now) l.self.this (gathered (values_of l.worths) (drop l.row-index l.rows) (environment l.base l.initial.work)) l.work r after →
-      Ran (content l.self.t.now) l.self.this (all_of l.rows (environment l.base l.initial.work)) l.initial.work r after;
+      Ran (content l.self.t.now) l.self.this (gathered (values_of l.initial.worths) l.rows (environment l.base l.initial.work)) l.initial.work r after;
   same : l.work.bindings ≡ l.initial.work.bindings;
   falls : l.work.state.left ≤ l.initial.work.state.left;
-  few : length (values_of l.worths) ≡ l.row-index;
+  few : length (values_of l.worths) ≡ length (values_of l.initial.worths) + l.row-index;
 }
 
 -- what the branches that are left come to is what all come to
 abbrev pub invariant-chosen-loop-branch : goal.invariant-chosen-loop-branch
 invariant-chosen-loop-branch l = record {
   rest : (r : Result Value EvaluationRefusal) (after : Work) →
-      Ran (content l.self.t.now) l.self.this (chosen (content l.self.t.now) l.self.this (environment l.base l.initial.work) l.value (drop l.branch-index l.branches)) l.work r after →
-      Ran (content l.self.t.now) l.self.this (chosen (content l.self.t.now) l.self.this (environment l.base l.initial.work) l.value l.branches) l.initial.work r after;
+      Ran (content l.self.t.now) l.self.this (chosen (content l.self.t.now) l.self.this (environment l.base l.initial.work) l.value (take (run_length (drop l.branch-index l.branches)) (drop l.branch-index l.branches))) l.work r after →
+      Ran (content l.self.t.now) l.self.this (chosen (content l.self.t.now) l.self.this (environment l.base l.initial.work) l.value (take (run_length l.branches) l.branches)) l.initial.work r after;
   same : l.work.bindings ≡ l.initial.work.bindings;
   room : l.work.capacity ≡ l.initial.work.capacity;
   falls : l.work.state.left ≤ l.initial.work.state.left;

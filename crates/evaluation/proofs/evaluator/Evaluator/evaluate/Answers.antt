@@ -1,12 +1,20 @@
-use Rattle.std.proofs.Common.{rules}
+use Rattle.std.proofs.Common.{Err, refl}
 use Rattle.tables.specs.Layout.{content}
-use Rattle.evaluation.proofs.Evaluating.{refused}
+use Rattle.evaluation.proofs.Evaluating.{refused, returned}
+use Rattle.evaluation.proofs.TypedWorths.{keeps_types}
 use Rattle.evaluation.proofs.evaluator.Evaluator.evaluate.Goals as goal
 
-pub returns-then-is_err : goal.returns-then-is_err
-returns-then-is_err c =
+-- what an evaluation comes to, and its types
+pub returns-in-Err : goal.returns-in-Err
+returns-in-Err c =
+    let m = content c.args.self.now.t.now in
     let cells = c.cut_cells.ensures.cells in
-    record {
-      evaluates = refused (content c.args.self.now.t.now) c.args.self.now.this c.args.row c.worth-worth.result (search rules) c.worth-worth.ensures.ran
-          (rw c.cells-cells.ensures.cells at cells) c.cut_cells.ensures.left c.cut_cells.ensures.bindings c.cut_cells.ensures.capacity;
-    }
+    let h = refused m c.args.self.now.this c.args.row (Err c.in-Err.refusal) refl c.in-Err.ensures.ran (rw c.cells-cells.ensures.cells at cells)
+    c.cut_cells.ensures.left c.cut_cells.ensures.bindings c.cut_cells.ensures.capacity in
+    record { evaluates = h; keeps_types = keeps_types m c.args.self.now.this c.args.row h }
+
+pub returns : goal.returns
+returns c =
+    let m = content c.args.self.now.t.now in
+    let h = returned m c.args.self.now.this c.args.row c.in_default.ensures.ran in
+    record { evaluates = h; keeps_types = keeps_types m c.args.self.now.this c.args.row h }

@@ -2,7 +2,7 @@
 use Rattle.std.proofs.Common.{◌≡◌, ℕ, ◌^◌, ◌<◌, List, ◌∷◌, ◌++◌, Bor, Option, Some, None, unwrap_or, codes, inl, inr, sym, ap, ap₂, ◌∙◌, arith, take-append-drop}
 use Rattle.std.proofs.lemmas.Str.Pattern.{IsSplitOnceResult, drop_at_char}
 use Rattle.std.specs.Str.Parse.{IsNumeral, digits_value, without_leading_plus}
-use Rattle.cases.specs.Text.{Writes, AreNumbers}
+use Rattle.spelling.specs.Text.{Writes, AreNumbers}
 
 -- what was parsed is what the word writes
 pub parsed : (bits : ℕ) (word : List ℕ) (number : ℕ) → IsNumeral 10 (without_leading_plus word) → digits_value 10 (without_leading_plus word) < 2 ^ bits →

@@ -1,7 +1,7 @@
 -- Words and items, with one more of each.
 use Rattle.std.proofs.Common.{◌≡◌, ℕ, List, [], ◌∷◌, ◌++◌, Bor, refl}
-use Rattle.cases.specs.Text.{Told, IsItem, AreItems, with_item, with_items}
-use Rattle.cases.specs.declared.text.Item.{Item}
+use Rattle.spelling.specs.Text.{Told, IsItem, AreItems, with_item, with_items}
+use Rattle.spelling.specs.declared.text.Item.{Item}
 
 pub items_push : (words : List (Bor (List ℕ))) (items : List Item) (word : Bor (List ℕ)) (item : Item) →
     AreItems words items → IsItem word.now item → AreItems (words ++ (word ∷ [])) (items ++ (item ∷ []))

@@ -1,7 +1,7 @@
 use Rattle.std.proofs.Common.{◌≡◌, List}
-use Rattle.cases.specs.Text.{told_by, with_items, nothing_told, AreItems}
-use Rattle.cases.specs.declared.text.Item.{Item}
-use Rattle.cases.proofs.text.spelled.Given as goal
+use Rattle.spelling.specs.Text.{told_by, with_items, nothing_told, AreItems}
+use Rattle.spelling.specs.declared.text.Item.{Item}
+use Rattle.spelling.proofs.text.spelled.Given as goal
 
 -- the words so far are items, which tell what the draft holds
 abbrev pub invariant-loop-word : goal.invariant-loop-word

@@ -1,8 +1,8 @@
 use Rattle.std.proofs.Common.{[], ◌∷◌, ◌++◌, sym, ap, ◌∙◌}
 use Rattle.std.specs.Str.Iter.{split_whitespace_rest}
-use Rattle.cases.specs.Text.{with_item, nothing_told, input_of}
-use Rattle.cases.proofs.Items.{items_push, told_push}
-use Rattle.cases.proofs.text.spelled.Goals as goal
+use Rattle.spelling.specs.Text.{with_item, nothing_told, input_of}
+use Rattle.spelling.proofs.Items.{items_push, told_push}
+use Rattle.spelling.proofs.text.spelled.Goals as goal
 
 pub loop-word-preserved : goal.loop-word-preserved
 loop-word-preserved c =

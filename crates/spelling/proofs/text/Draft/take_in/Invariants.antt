@@ -1,7 +1,7 @@
 use Rattle.std.proofs.Common.{◌≡◌}
-use Rattle.cases.specs.Text.{told_by, with_item}
-use Rattle.cases.specs.declared.text.Item.TheVariants.{Numbers}
-use Rattle.cases.proofs.text.Draft.take_in.Given as goal
+use Rattle.spelling.specs.Text.{told_by, with_item}
+use Rattle.spelling.specs.declared.text.Item.TheVariants.{Numbers}
+use Rattle.spelling.proofs.text.Draft.take_in.Given as goal
 
 -- the number was written as often as the loop has run
 abbrev pub invariant-loop : goal.invariant-loop

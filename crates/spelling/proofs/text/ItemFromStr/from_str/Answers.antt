@@ -1,6 +1,6 @@
 use Rattle.std.proofs.Common.{refl}
-use Rattle.cases.proofs.Words.{parsed, numbers}
-use Rattle.cases.proofs.text.ItemFromStr.from_str.Goals as goal
+use Rattle.spelling.proofs.Words.{parsed, numbers}
+use Rattle.spelling.proofs.text.ItemFromStr.from_str.Goals as goal
 
 pub returns : goal.returns
 returns c =

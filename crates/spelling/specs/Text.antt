@@ -6,9 +6,9 @@ use Rattle.std.specs.Iterator.{Drains}
 use Rattle.std.specs.Str.Iter.{split_whitespace_rest, split_whitespace_steps}
 use Rattle.std.specs.Str.Parse.{IsNumeral, digits_value, without_leading_plus}
 use Rattle.std.specs.declared.str.SplitWhitespace.{SplitWhitespace}
-use Rattle.cases.specs.declared.text.Draft.{Draft}
-use Rattle.cases.specs.declared.text.Item.{Item}
-use Rattle.cases.specs.declared.text.Item.TheVariants.{Numbers, Byte, Bar, Version, Length, Given}
+use Rattle.spelling.specs.declared.text.Draft.{Draft}
+use Rattle.spelling.specs.declared.text.Item.{Item}
+use Rattle.spelling.specs.declared.text.Item.TheVariants.{Numbers, Byte, Bar, Version, Length, Given}
 
 -- A word writes a number that has so many bits, in decimal digits, which a plus may lead.
 pub record Writes (bits : ℕ) (word : List ℕ) (number : ℕ) : Type 0 where

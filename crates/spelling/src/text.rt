@@ -10,8 +10,8 @@
 //!
 //! Numbers and single bytes are in order what follows the version: the eleven counts, and then the rows of the tables.
 ghost use Rattle.std.specs.Prelude.{◌≡◌, IfOk};
-ghost use Rattle.cases.specs.declared.text.SpellError.TheVariants.{NotAnItem, NoMemory};
-ghost use Rattle.cases.specs.Text.{IsItem, told_by, with_item, nothing_told, stated_length, input_of, Spells};
+ghost use Rattle.spelling.specs.declared.text.SpellError.TheVariants.{NotAnItem, NoMemory};
+ghost use Rattle.spelling.specs.Text.{IsItem, told_by, with_item, nothing_told, stated_length, input_of, Spells};
 
 use std::alloc::{AllocError, Global};
 use std::num::ParseIntError;
