@@ -15,7 +15,7 @@
 
 ghost use Rattle.std.specs.Prelude.{IfOk};
 ghost use Rattle.tables.specs.Layout.{content};
-ghost use Rattle.worths.specs.Worths.{IsEvaluationOf, IsAnswerOf};
+ghost use Rattle.worths.specs.Worths.{IsEvaluationOf, IsAnswerOf, KeepsType, HasItsType};
 
 mod answer;
 
@@ -25,6 +25,7 @@ use evaluation::cells::Cells;
 use evaluation::evaluator::Evaluator;
 use evaluation::value::Value;
 use evaluation::workspace::Workspace;
+use loading::accepted::AcceptedModel;
 use loading::load::{LoadError, load_input};
 use mapping::mapping::{Binding, Mapping};
 use model::input::Input;
@@ -50,6 +51,7 @@ fn evaluation_of(
     row: u16,
 ) -> anyhow::Result<Evaluation>
     ensures evaluation { IfOk result (IsEvaluationOf (content t.now) row) }
+    ensures keeps_type { IfOk result (λ e. KeepsType (content t.now) row e.worth) }
 {
     let mut cells = Cells::new(heap)?;
     let mut mapping = Mapping::new(memory);
@@ -65,10 +67,16 @@ fn evaluation_of(
     })
 }
 
-/// What is printed of a model with these tables.
-fn answer_of(heap: Global, memory: &mut [Binding<Value>], t: &Tables) -> anyhow::Result<Answer>
-    ensures answer { IfOk result (IsAnswerOf (content t.now)) }
+/// What is printed of an accepted model.
+fn answer_of(
+    heap: Global,
+    memory: &mut [Binding<Value>],
+    model: &AcceptedModel,
+) -> anyhow::Result<Answer>
+    ensures answer { IfOk result (IsAnswerOf (content model.now.model.tables)) }
+    ensures has_its_type { IfOk result (HasItsType (content model.now.model.tables)) }
 {
+    let t = model.tables();
     match t.functions.first().copied() {
         Some(function) => {
             let evaluation = evaluation_of(heap, memory, t, function.body)?;
@@ -87,7 +95,7 @@ fn answer_to_input(
     let mut input = Input::new(heap)?;
     input.absorb(bytes)?;
     match load_input(heap, input) {
-        Ok(model) => answer_of(heap, memory, model.tables()),
+        Ok(model) => answer_of(heap, memory, &model),
         Err(LoadError::Refused(_)) => Ok(Answer::NotAccepted),
         Err(LoadError::NoMemory) => Err(anyhow!("no memory for the model")),
     }
