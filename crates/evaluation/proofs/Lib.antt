@@ -4,13 +4,13 @@ mod Depths
 mod Evaluating
 mod Growing
 mod Matching
-mod Meeting
+pub mod Meeting
 mod RowKinds
 mod Sameness
 mod TypedArguments
 mod TypedPatterns
 mod TypedRules
-mod TypedTasks
-mod TypedValues
-mod TypedWorths
-mod Visits
+pub mod TypedTasks
+pub mod TypedValues
+pub mod TypedWorths
+pub mod Visits
