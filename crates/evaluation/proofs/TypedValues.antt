@@ -1,9 +1,9 @@
 -- Values keep their types when objects, calls and cells are added.
-use Rattle.std.proofs.Common.{◌≡◌, ℕ, zero, suc, ◌+◌, ◌≤◌, List, [], ◌∷◌, ◌++◌, length, get_or, take, drop, Some, refl, sym, ap, ◌∙◌, inl, inr, arith, append-nil}
+use Rattle.std.proofs.Common.{◌≡◌, ℕ, zero, suc, ◌+◌, List, [], ◌∷◌, ◌++◌, length, get_or, take, drop, Some, sym, ap, ◌∙◌, inl, inr, arith, append-nil}
 use Rattle.std.proofs.lemmas.Bool.{cases_lt}
-use Rattle.std.proofs.lemmas.List.{length-append, take-append-drop}
+use Rattle.std.proofs.lemmas.List.{length-append, take-append-drop, take-append-le}
 use Rattle.std.proofs.lemmas.Option.{none-some, slice_get_within, slice_get-get_or}
-use Rattle.std.proofs.Math.Seq.{take-append_seam}
+use Rattle.std.proofs.Math.Seq.{get_or-append_seam, take-append_seam}
 use Rattle.std.specs.List.{slice_get}
 use Rattle.tables.specs.declared.rows.ListRow.{ListRow}
 use Rattle.tables.specs.Layout.{Content}
@@ -19,23 +19,16 @@ use Rattle.evaluation.specs.Stores.{Longer}
 use Rattle.evaluation.specs.Typed.{Referents, Extends, Has, DataTyped, CellsTyped, SlotsTyped, TypesLast}
 use Rattle.evaluation.specs.Values.{Data}
 
--- a row of a longer list, and its first rows
+-- a row of a longer list
 pub slice_left : {A : Type 0} (xs ys : List A) (i : ℕ) (x : A) → slice_get xs i ≡ Some x → slice_get (xs ++ ys) i ≡ Some x
 slice_left [] ys i x e = absurd (none-some x e)
 slice_left (y ∷ xs) ys zero x e = e
 slice_left (y ∷ xs) ys (suc i) x e = slice_left xs ys i x e
 
-slice_right : {A : Type 0} (xs ys : List A) (i : ℕ) → slice_get (xs ++ ys) (length xs + i) ≡ slice_get ys i
-slice_right [] ys i = let e : 0 + i ≡ i = omega arith in rw e refl
-slice_right (x ∷ xs) ys i = let e : suc (length xs) + i ≡ suc (length xs + i) = omega arith in rw e (slice_right xs ys i)
-
 pub slice_last : {A : Type 0} (xs : List A) (x : A) → slice_get (xs ++ x ∷ []) (length xs) ≡ Some x
-slice_last xs x = let e : length xs ≡ length xs + 0 = omega arith in ap (slice_get (xs ++ x ∷ [])) e ∙ slice_right xs (x ∷ []) 0
-
-take_left : {A : Type 0} (xs ys : List A) (i : ℕ) → i ≤ length xs → take i (xs ++ ys) ≡ take i xs
-take_left xs ys zero le = refl
-take_left [] ys (suc i) le = absurd (omega arith)
-take_left (x ∷ xs) ys (suc i) le = ap (λ (zs : List _). x ∷ zs) (take_left xs ys i (omega arith))
+slice_last xs x =
+    let longer : length (xs ++ x ∷ []) ≡ length xs + 1 = length-append xs (x ∷ []) in
+    slice_get-get_or (xs ++ x ∷ []) (length xs) x (omega arith) ∙ some_of (sym (get_or-append_seam xs x [] x))
 
 -- arguments that have types in one sense and in another
 pub arguments_map : {A : Type 0} (m : Content) (has has' : A → ValueType → Type 0) → ((a : A) (t : ValueType) → has a t → has' a t) →
@@ -86,7 +79,7 @@ cells_more m refs cells typed d new i e found = elim (cases_lt i (length cells))
   | inl earlier ↦ (
       let there = slice_get-get_or cells i d earlier in
       let same : e ≡ get_or cells i d = known (sym found ∙ slice_left cells (d ∷ []) i (get_or cells i d) there) in
-      rw (take_left cells (d ∷ []) i (omega arith)) (typed i e (there ∙ some_of same))
+      rw (take-append-le i cells (d ∷ []) (omega arith)) (typed i e (there ∙ some_of same))
       )
   | inr last ↦ (
       let within = slice_get_within (cells ++ d ∷ []) i e found in

@@ -6,8 +6,8 @@ use Rattle.evaluation.specs.declared.value.Value.{Value}
 use Rattle.evaluation.specs.declared.value.Value.TheVariants as value
 use Rattle.evaluation.specs.Values.{Data, cell_of, same_value}
 
--- The values of two lists are the same, one for one. Two cells are the same if their constructors are and their parts are; other values, if they are of one kind and
--- hold the same.
+-- The values of two lists are the same, one for one. Two cells are the same if their constructors are and their parts are; other values
+-- are if they are of one kind and hold the same.
 pub data Same (cells : List Data) : List Value → List Value → Type 0 where
   empty : Same cells [] []
   plain : {v w : Value} {vs ws : List Value} → (cell_of v ≡ None) ⊎ (cell_of w ≡ None) → same_value v w ≡ true → Same cells vs ws → Same cells (v ∷ vs) (w ∷ ws)

@@ -81,7 +81,8 @@ module _ (m : Content) (known : Referents) where
   Serves (within.Function f) this = ⊤
   Serves (within.Class c) this = known.class_of this ≡ Some c
 
-  -- What a value is for which an evaluation has made cells.
+  -- A worth of a type, with the cells before the evaluation and after it: a value of the type, over cells that are the earlier ones and
+  -- newer ones behind them, and typed.
   pub record Worth (t : ValueType) (earlier : List Data) (v : Value) (later : List Data) : Type 0 where
     pub has : Has later v t
     pub longer : Longer earlier later

@@ -38,8 +38,8 @@ IsAnswerOf m NoFunction = slice_get m.functions 0 ≡ None
 IsAnswerOf m NotAccepted = ⊥
 IsAnswerOf m NotACase = ⊥
 
--- Where functions are typed, and a row has a type in a scope that nothing needs to be bound for, its worth is a value of that type, in the
--- cells that the evaluation leaves; and so whatever objects and calls there are.
+-- Where functions are typed, and the node in a row has a type in a scope for which no slot has to be bound, its worth is a value of that
+-- type, over the cells that the evaluation leaves. That is so whatever objects and calls there are.
 abbrev pub KeepsType : Content → ℕ → Result Value EvaluationRefusal → Type 0
 KeepsType m row worth =
     FunctionsTyped m → (known : Referents) (w : Within) (b : Bindings) (t : ValueType) → type_in m w row b ≡ Some t → Serves m known w 0 →
