@@ -1,16 +1,9 @@
--- Numbers and rows, as the chunks that they are read from.
+-- Rows, as the chunks of numbers that they are read from, and how many numbers the bytes of a header spell.
 use Rattle.std.proofs.Common.{◌≡◌, ℕ, zero, suc, ◌*◌, ◌<◌, ◌≤◌, ◌/◌, List, [], ◌∷◌, map, length, take, drop, refl, ap, length-drop, length-take, arith}
 use Rattle.std.proofs.Math.Nat.{le-div_iff_mul-le}
 use Rattle.std.proofs.lemmas.List.{take_all}
-use Rattle.std.specs.Int.{w16, from_be_bytes}
 use Rattle.std.specs.Simd.{first_chunks}
 use Rattle.tables.specs.Numbers.{numbers_of, rows_of}
-
--- the numbers, a chunk of two bytes at a time
-pub numbers_chunked : (bs : List ℕ) → numbers_of bs ≡ map (from_be_bytes w16) (first_chunks 2 (length bs / 2) bs)
-numbers_chunked [] = refl
-numbers_chunked (a ∷ []) = refl
-numbers_chunked (a ∷ b ∷ bs) = let e : length (a ∷ b ∷ bs) / 2 ≡ suc (length bs / 2) = omega arith in rw (e, numbers_chunked bs)
 
 -- as many whole chunks as the rows need
 pub as_many : (w count n : ℕ) → 0 < w → count * w ≤ n → count ≤ n / w

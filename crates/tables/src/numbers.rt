@@ -4,15 +4,16 @@ ghost use Rattle.tables.specs.Numbers.{numbers_of, rows_of};
 use std::alloc::{AllocError, Global};
 
 /// The two-byte numbers that the bytes spell, the high byte first.
-#[tactic(auto, using(crate::proofs::Steps::numbers_chunked))]
 pub(crate) fn numbers(heap: Global, bytes: &[u8]) -> Result<Vec<u16>, AllocError>
     ensures spelled { IfOk result (λ v. v.items ≡ numbers_of bytes.now) }
 {
-    let (pairs, _) = bytes.as_chunks::<2>();
-    pairs
-        .iter()
-        .map(|pair| u16::from_be_bytes(*pair))
-        .collect(heap)
+    let mut numbers = Vec::with_capacity(heap, bytes.len() / 2)?;
+    let mut left = bytes;
+    while let [hi, lo, rest @ ..] = left {
+        numbers.push_reserved(u16::from_be_bytes([*hi, *lo]));
+        left = rest;
+    }
+    Ok(numbers)
 }
 
 /// A row of a table: `N` columns, each a number.
