@@ -1,15 +1,15 @@
 mod Carrying
 mod Computed
-mod Depths
-mod Evaluating
-mod Growing
+pub mod Depths
+pub mod Evaluating
+pub mod Growing
 mod Matching
 pub mod Meeting
 mod RowKinds
 mod Sameness
-mod TypedArguments
+pub mod TypedArguments
 mod TypedPatterns
-mod TypedRules
+pub mod TypedRules
 pub mod TypedTasks
 pub mod TypedValues
 pub mod TypedWorths

@@ -23,12 +23,12 @@ use Rattle.evaluation.specs.Typed.{Referents, Has, SlotsTyped}
 use Rattle.evaluation.specs.Values.{Data}
 
 -- a slot below those that are bound, and one of those
-bound_below : (k : ℕ) (vs : List Value) (s : Environment) (slot : ℕ) → slot < k → lookup slot (bound_from k vs s) ≡ lookup slot s
+pub bound_below : (k : ℕ) (vs : List Value) (s : Environment) (slot : ℕ) → slot < k → lookup slot (bound_from k vs s) ≡ lookup slot s
 bound_below k [] s slot lt = refl
 bound_below k (v ∷ vs) s slot lt =
     bound_below (k + 1) vs (record { slot = k; entry = v } ∷ s) slot (omega arith) ∙ rw (ne_eqb k slot (λ e. omega arith)) refl
 
-bound_at : (k : ℕ) (vs : List Value) (s : Environment) (i slot : ℕ) (v : Value) → slot ≡ k + i → slice_get vs i ≡ Some v → lookup slot (bound_from k vs s) ≡ Some v
+pub bound_at : (k : ℕ) (vs : List Value) (s : Environment) (i slot : ℕ) (v : Value) → slot ≡ k + i → slice_get vs i ≡ Some v → lookup slot (bound_from k vs s) ≡ Some v
 bound_at k [] s i slot v at e = absurd (none-some v e)
 bound_at k (x ∷ vs) s zero slot v at e =
     bound_below (k + 1) vs (record { slot = k; entry = x } ∷ s) slot (omega arith) ∙ rw (eq-eqb k slot (omega arith)) e
@@ -49,7 +49,7 @@ bound_by k (x ∷ vs) s slot v found = elim (bound_by (k + 1) vs (record { slot 
     go false miss e = inr (rw miss at e)
 
 -- a slot that is bound in a scope of the first slots is one of them, and has its type
-bind_parts : (n : ℕ) (o : Option ValueType) (s : Bindings) (slot : ℕ) (t : ValueType) → lookup slot (bind_typed n o s) ≡ Some t →
+pub bind_parts : (n : ℕ) (o : Option ValueType) (s : Bindings) (slot : ℕ) (t : ValueType) → lookup slot (bind_typed n o s) ≡ Some t →
     ((slot ≡ n) × (o ≡ Some t)) ⊎ (lookup slot s ≡ Some t)
 bind_parts n None s slot t e = inr e
 bind_parts n (Some u) s slot t e = go (is_some (lookup n s)) e
@@ -89,7 +89,7 @@ module _ (m : Content) {A : Type 0} (has : A → ValueType → Type 0) where
       (a, refl, rw type at fit.0.2)
   argument_at (a ∷ rest) (y ∷ xs) fit (suc i) x t e typed = argument_at rest xs fit.1 i x t e typed
 
-  parameter_at : (rest : List A) (xs : List ListRow) → ArgumentsFit m has rest xs → (i : ℕ) (a : A) → slice_get rest i ≡ Some a →
+  pub parameter_at : (rest : List A) (xs : List ListRow) → ArgumentsFit m has rest xs → (i : ℕ) (a : A) → slice_get rest i ≡ Some a →
       (x : ListRow) × (t : ValueType) × (slice_get xs i ≡ Some x) × (entry_type m x ≡ Some t) × has a t
   parameter_at [] xs fit i a e = absurd (none-some a e)
   parameter_at (b ∷ rest) [] fit i a e = absurd fit

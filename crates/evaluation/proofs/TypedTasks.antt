@@ -3,6 +3,7 @@ use Rattle.std.proofs.Common.{◌≡◌, ℕ, Bool, true, false, List, ◌∷◌
 use Rattle.std.specs.Prelude.{◌==◌}
 use Rattle.std.proofs.lemmas.Bool.{eqb-true}
 use Rattle.tables.specs.declared.rows.FunctionRow.{FunctionRow}
+use Rattle.tables.specs.declared.rows.ListRow.{ListRow}
 use Rattle.tables.specs.Layout.{Content}
 use Rattle.mapping.specs.Bindings.{lookup}
 use Rattle.rules.proofs.Rows.{known}
@@ -15,7 +16,7 @@ use Rattle.typing.specs.Scopes.{Bindings, declared}
 use Rattle.evaluation.specs.declared.value.Value.{Value}
 use Rattle.evaluation.specs.Plans.{Environment, Task}
 use Rattle.evaluation.specs.Stores.{Longer}
-use Rattle.evaluation.specs.Typed.{Referents, Has, CellsTyped, SlotsTyped, Serves, TypesLast, Worth}
+use Rattle.evaluation.specs.Typed.{Referents, Has, CellsTyped, SlotsTyped, Serves, TypesLast, Worth, Worths}
 use Rattle.evaluation.specs.Values.{Data}
 use Rattle.evaluation.proofs.Growing.{longer_same, longer_then}
 use Rattle.evaluation.proofs.Meeting.{Claim}
@@ -35,6 +36,9 @@ module _ (m : Content) (refs : Referents) where
 
   pub later_worth : {t : ValueType} {earlier later : List Data} {v : Value} → Worth m refs t earlier v later → Later earlier later
   later_worth h = record { longer = h.longer; typed = h.typed }
+
+  pub later_worths : {xs : List ListRow} {earlier later : List Data} {vs : List Value} → Worths m refs xs earlier vs later → Later earlier later
+  later_worths h = record { longer = h.longer; typed = h.typed }
 
   last : TypesLast m refs refs
   last = types_last m refs refs (record { objects = λ o c e. e; calls = λ f r e. e })

@@ -17,7 +17,7 @@ use Rattle.evaluation.specs.declared.value.Value.TheVariants as value
 use Rattle.evaluation.specs.Plans.{Environment}
 use Rattle.evaluation.specs.Stores.{Longer}
 use Rattle.evaluation.specs.Typed.{Referents, Extends, Has, DataTyped, CellsTyped, SlotsTyped, TypesLast}
-use Rattle.evaluation.specs.Values.{Data}
+use Rattle.evaluation.specs.Values.{Data, HasParts}
 
 -- a row of a longer list
 pub slice_left : {A : Type 0} (xs ys : List A) (i : ℕ) (x : A) → slice_get xs i ≡ Some x → slice_get (xs ++ ys) i ≡ Some x
@@ -63,17 +63,17 @@ module _ (m : Content) (refs more : Referents) (extends : Extends refs more) whe
   pub types_last : TypesLast m refs more
   types_last = record {
     values = has_more;
-    cells = λ cells h i d e. data_more (take i cells) (take i cells) d ([], sym (append-nil (take i cells))) (h i d e);
+    cells = λ cells h i d e. let p = h i d e in (p.0, data_more (take i cells) (take i cells) d ([], sym (append-nil (take i cells))) p.1);
     slots = slots_more;
   }
 
 -- a cell in use is typed over all cells
 pub cell_typed : (m : Content) (refs : Referents) (cells : List Data) → CellsTyped m refs cells → (i : ℕ) (d : Data) → slice_get cells i ≡ Some d → DataTyped m refs cells d
 cell_typed m refs cells typed i d found =
-    data_more m refs refs (record { objects = λ o c e. e; calls = λ f r e. e }) (take i cells) cells d (drop i cells, sym (take-append-drop i cells)) (typed i d found)
+    data_more m refs refs (record { objects = λ o c e. e; calls = λ f r e. e }) (take i cells) cells d (drop i cells, sym (take-append-drop i cells)) (typed i d found).1
 
 -- a new cell
-pub cells_more : (m : Content) (refs : Referents) (cells : List Data) → CellsTyped m refs cells → (d : Data) → DataTyped m refs cells d →
+pub cells_more : (m : Content) (refs : Referents) (cells : List Data) → CellsTyped m refs cells → (d : Data) → HasParts d × DataTyped m refs cells d →
     CellsTyped m refs (cells ++ d ∷ [])
 cells_more m refs cells typed d new i e found = elim (cases_lt i (length cells)) [
   | inl earlier ↦ (

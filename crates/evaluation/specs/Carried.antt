@@ -1,18 +1,30 @@
 -- What the evaluator works with, and what its functions promise.
-use Rattle.std.specs.Prelude.{◌≡◌, ℕ, ◌+◌, ◌≤◌, Bool, true, false, cond, ◌==◌, ◌++◌, length, is_ok, Some, None, Ok, Err, Option, Result}
+use Rattle.std.specs.Prelude.{◌≡◌, ℕ, ◌+◌, ◌≤◌, Bool, true, false, cond, ◌==◌, List, [], ◌++◌, length, is_ok, Some, None, Ok, Err, Option, Result}
 use Rattle.tables.specs.Layout.{Content}
 use Rattle.mapping.specs.Bindings.{since}
 use Rattle.typing.specs.Room.{free}
 use Rattle.evaluation.specs.declared.refusal.EvaluationRefusal.{EvaluationRefusal}
 use Rattle.evaluation.specs.declared.refusal.EvaluationRefusal.TheVariants.{VisitsSpent}
+use Rattle.evaluation.specs.declared.value.Value.{Value}
 use Rattle.evaluation.specs.Evaluation.{State, ending, paid, carried_out}
 use Rattle.evaluation.specs.Plans.{Environment, Plan}
+use Rattle.evaluation.specs.Rules.{bound_from}
+use Rattle.evaluation.specs.Stores.{Longer}
+use Rattle.evaluation.specs.Values.{Data}
 
 -- The bindings of all activations, the visits that are left and the cells in use, and how many bindings there is memory for.
 pub record Work : Type 0 where
   pub bindings : Environment
   pub state : State
   pub capacity : ℕ
+
+-- a workspace in which nothing is bound and no visit is left
+abbrev pub idle : List Data → ℕ → Work
+idle cells capacity = record { bindings = []; state = record { left = 0; cells = cells }; capacity = capacity }
+
+-- The environment of a statement: the locals are bound to the slots from 0 on, and then the fields to those from 128 on.
+abbrev pub statement_environment : List Value → List Value → Environment
+statement_environment locals fields = bound_from 128 fields (bound_from 0 locals [])
 
 -- the bindings of an activation: those made since there were `base`
 abbrev pub environment : ℕ → Work → Environment
@@ -54,10 +66,11 @@ pub record Tried (m : Content) (this : ℕ) (p : Plan (Option Environment)) (bas
   pub falls : after.state.left ≤ before.state.left
 
 -- An evaluation as a caller sees it: answer and visits are those of the plan, and so are the cells where there is a value. A refusal
--- leaves the cells as they were. The bindings are as they were, whatever the answer is.
+-- leaves the cells as they were; so cells are only added. The bindings are as they were, whatever the answer is.
 pub record Evaluates (m : Content) (this : ℕ) {A : Type 0} (p : Plan A) (before : Work) (answer : Result A EvaluationRefusal) (after : Work) : Type 0 where
   pub value : answer ≡ (carried_out m this p before.state).answer
   pub left : after.state.left ≡ (carried_out m this p before.state).state.left
   pub cells : after.state.cells ≡ cond (is_ok answer) (carried_out m this p before.state).state.cells before.state.cells
+  pub grows : Longer before.state.cells after.state.cells
   pub same : after.bindings ≡ before.bindings
   pub room : after.capacity ≡ before.capacity

@@ -4,6 +4,7 @@ use Rattle.std.specs.List.{slice_get}
 use Rattle.tables.specs.declared.rows.ClassRow.{ClassRow}
 use Rattle.tables.specs.declared.rows.ConstructorRow.{ConstructorRow}
 use Rattle.tables.specs.declared.rows.FunctionRow.{FunctionRow}
+use Rattle.tables.specs.declared.rows.ListRow.{ListRow}
 use Rattle.tables.specs.Layout.{Content}
 use Rattle.mapping.specs.Bindings.{lookup}
 use Rattle.syntax.specs.declared.types.ValueType.{ValueType}
@@ -21,7 +22,7 @@ use Rattle.evaluation.specs.declared.value.Value.TheVariants as value
 use Rattle.evaluation.specs.Carried.{Work}
 use Rattle.evaluation.specs.Plans.{Environment}
 use Rattle.evaluation.specs.Stores.{Longer}
-use Rattle.evaluation.specs.Values.{Data}
+use Rattle.evaluation.specs.Values.{Data, HasParts}
 
 -- What the objects and the futures among the values refer to: the class of an object, and the row of the type that a call results in.
 pub record Referents : Type 0 where
@@ -66,9 +67,9 @@ module _ (m : Content) (known : Referents) where
   abbrev pub DataTyped : List Data → Data → Type 0
   DataTyped cells d = (k : ConstructorRow) × (slice_get m.constructors d.constructor ≡ Some k) × ArgumentsFit m (Has cells) d.parts (parameters_of m k)
 
-  -- Each cell is typed over the cells before it.
+  -- Each cell holds data with parts, typed over the cells before it.
   abbrev pub CellsTyped : List Data → Type 0
-  CellsTyped cells = (i : ℕ) (d : Data) → slice_get cells i ≡ Some d → DataTyped (take i cells) d
+  CellsTyped cells = (i : ℕ) (d : Data) → slice_get cells i ≡ Some d → HasParts d × DataTyped (take i cells) d
 
   -- The slots of a scope are bound to values of their types. In a function every bound slot has a value of the type that it is declared with.
   pub record SlotsTyped (w : Within) (cells : List Data) (s : Environment) (b : Bindings) : Type 0 where
@@ -88,6 +89,12 @@ module _ (m : Content) (known : Referents) where
     pub longer : Longer earlier later
     pub typed : CellsTyped later
 
+  -- Worths of the types of parameters, one for one, likewise.
+  pub record Worths (xs : List ListRow) (earlier : List Data) (vs : List Value) (later : List Data) : Type 0 where
+    pub fit : ArgumentsFit m (Has later) vs xs
+    pub longer : Longer earlier later
+    pub typed : CellsTyped later
+
 -- Every function's body has the type of the result.
 abbrev pub FunctionsTyped : Content → Type 0
 FunctionsTyped m = (f : FunctionRow) → IsFunction m f → FunctionTyped m f
@@ -99,6 +106,13 @@ KeepsTypes m this row before answer after =
     FunctionsTyped m → (known : Referents) (w : Within) (b : Bindings) (t : ValueType) → type_in m w row b ≡ Some t → Serves m known w this →
     CellsTyped m known before.state.cells → SlotsTyped m known w before.state.cells before.bindings b →
     IfOk answer (λ v. Worth m known t before.state.cells v after.state.cells)
+
+-- Expressions that are evaluated one after another keep types likewise, where they have the types of parameters, one for one.
+abbrev pub KeepsEachType : Content → (this : ℕ) (rows : List ℕ) → Work → Result (List Value) EvaluationRefusal → Work → Type 0
+KeepsEachType m this rows before answer after =
+    FunctionsTyped m → (known : Referents) (w : Within) (b : Bindings) (xs : List ListRow) → ArgumentsFit m (λ row t. type_in m w row b ≡ Some t) rows xs →
+    Serves m known w this → CellsTyped m known before.state.cells → SlotsTyped m known w before.state.cells before.bindings b →
+    IfOk answer (λ vs. Worths m known xs before.state.cells vs after.state.cells)
 
 -- Types last: what is typed stays so when objects, calls and cells are added.
 pub record TypesLast (m : Content) (known more : Referents) : Type 0 where

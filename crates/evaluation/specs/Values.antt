@@ -1,5 +1,5 @@
 -- Values, and what a value is taken for where a typed expression never asks.
-use Rattle.std.specs.Prelude.{ℕ, Bool, Some, None, Option, false, cond, ◌==◌, ◌&&◌, nat_lt, List, [], ◌∷◌, ◌++◌, length, take, ℤ, pos}
+use Rattle.std.specs.Prelude.{ℕ, Bool, Some, None, Option, false, cond, ◌==◌, ◌&&◌, ◌≤◌, nat_lt, List, [], ◌∷◌, ◌++◌, length, take, ℤ, pos}
 use Rattle.std.specs.Ordering.{int_eq}
 use Rattle.evaluation.specs.declared.value.Cell.{Cell}
 use Rattle.evaluation.specs.declared.value.Value.{Value}
@@ -40,6 +40,10 @@ with_value vs v = cond (nat_lt (length vs) 4) (vs ++ v ∷ []) vs
 pub record Data : Type 0 where
   pub constructor : ℕ
   pub parts : List Value
+
+-- It has one part at least: data without parts takes no cell, and so each value of data has one form.
+abbrev pub HasParts : Data → Type 0
+HasParts d = 1 ≤ length d.parts
 
 abbrev pub data_of : Cell → Data
 data_of c = record { constructor = c.constructor; parts = values_of c.parts }

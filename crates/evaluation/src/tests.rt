@@ -2,21 +2,11 @@ use crate::cells::Cells;
 use crate::evaluator::Evaluator;
 use crate::refusal::EvaluationRefusal;
 use crate::value::Value;
-use crate::workspace::Workspace;
-use mapping::mapping::{Binding, Mapping};
+use crate::workspace::{BINDINGS, UNBOUND, Workspace};
 use std::alloc::{AllocError, Global};
 use std::test::Fail;
 use tables::rows::NodeRow;
 use tables::tables::Tables;
-
-/// For how many bindings a choice needs memory.
-const BINDINGS: usize = 40_000;
-
-/// What memory for bindings holds before they are made.
-const UNBOUND: Binding<Value> = Binding {
-    slot: 0,
-    entry: Value::Unit,
-};
 
 /// A node whose children are as many of these as the count says.
 fn node(kind: u16, reference: u16, count: u16, p1: u16, p2: u16) -> NodeRow {
@@ -52,11 +42,11 @@ fn tables_of(heap: Global, nodes: &[NodeRow]) -> Result<Tables, AllocError> {
 fn this_is_the_object(rt: HostRuntime) -> Result<(), Fail> {
     let t = tables_of(rt.alloc(), &[node(6, 0, 0, 0, 0)])?;
     let mut memory = vec![in rt.alloc(); UNBOUND; BINDINGS]?;
-    let mut mapping = Mapping::new(memory.as_mut_slice());
-    let mut cells = Cells::new(rt.alloc())?;
-    let Some(mut work) = Workspace::new(&mut mapping, &mut cells) else {
+    let cells = Cells::new(rt.alloc())?;
+    let Ok(mut work) = Workspace::new(memory.as_mut_slice(), cells) else {
         return Err(Fail::new("there is no workspace"));
     };
+    work.enter(&[], &[]);
     let evaluator = Evaluator { t: &t, this: 7 };
     assert_eq!(rt; evaluator.evaluate(&mut work, 0), Ok(Value::Object(7)));
     assert_eq!(rt; work.left(), 9_999);
@@ -75,11 +65,11 @@ fn refused_evaluation_keeps_earlier_cells(rt: HostRuntime) -> Result<(), Fail> {
     ];
     let t = tables_of(rt.alloc(), &nodes)?;
     let mut memory = vec![in rt.alloc(); UNBOUND; BINDINGS]?;
-    let mut mapping = Mapping::new(memory.as_mut_slice());
-    let mut cells = Cells::new(rt.alloc())?;
-    let Some(mut work) = Workspace::new(&mut mapping, &mut cells) else {
+    let cells = Cells::new(rt.alloc())?;
+    let Ok(mut work) = Workspace::new(memory.as_mut_slice(), cells) else {
         return Err(Fail::new("there is no workspace"));
     };
+    work.enter(&[], &[]);
     let evaluator = Evaluator { t: &t, this: 0 };
     assert_eq!(rt; evaluator.evaluate(&mut work, 1), Ok(Value::Cell(0)));
     assert_eq!(rt;
@@ -95,8 +85,36 @@ fn refused_evaluation_keeps_earlier_cells(rt: HostRuntime) -> Result<(), Fail> {
 #[test]
 fn too_few_bindings_give_no_workspace(rt: HostRuntime) -> Result<(), Fail> {
     let mut memory = vec![in rt.alloc(); UNBOUND; BINDINGS - 1]?;
-    let mut mapping = Mapping::new(memory.as_mut_slice());
-    let mut cells = Cells::new(rt.alloc())?;
-    assert!(rt; Workspace::new(&mut mapping, &mut cells).is_none());
+    let cells = Cells::new(rt.alloc())?;
+    match Workspace::new(memory.as_mut_slice(), cells) {
+        Ok(_work) => Err(Fail::new("there is a workspace")),
+        Err(cells) => {
+            assert_eq!(rt; cells.length(), 0);
+            Ok(())
+        }
+    }
+}
+
+#[test]
+fn expressions_see_locals_and_fields(rt: HostRuntime) -> Result<(), Fail> {
+    // local 1 and field 0
+    let t = tables_of(rt.alloc(), &[node(5, 1, 0, 0, 0), node(5, 128, 0, 0, 0)])?;
+    let mut memory = vec![in rt.alloc(); UNBOUND; BINDINGS]?;
+    let cells = Cells::new(rt.alloc())?;
+    let Ok(mut work) = Workspace::new(memory.as_mut_slice(), cells) else {
+        return Err(Fail::new("there is no workspace"));
+    };
+    work.enter(&[Value::Int(3), Value::Int(4)], &[Value::Int(5)]);
+    let evaluator = Evaluator { t: &t, this: 0 };
+    let Ok(worths) = evaluator.evaluate_all(&mut work, &[1, 0]) else {
+        return Err(Fail::new("the expressions are refused"));
+    };
+    assert_eq!(rt;
+        worths.as_slice(),
+        [Value::Int(5), Value::Int(4)].as_slice()
+    );
+    assert_eq!(rt; work.left(), 9_998);
+    assert_eq!(rt; work.find(0, 0), Some(Value::Int(3)));
+    assert_eq!(rt; work.find(0, 2), None);
     Ok(())
 }

@@ -1,8 +1,9 @@
 -- Each type of an accepted model has a default.
-use Rattle.std.proofs.Common.{◌≡◌, ℕ, true, false, eqb, ltb, take, Some, None, Option, refl, sym, ◌∙◌, inl, inr, arith, eqb-true, ltb-false}
-use Rattle.std.proofs.lemmas.Bool.{cases_Bool, not-false, true≢false}
+use Rattle.std.proofs.Common.{◌≡◌, ℕ, Bool, true, false, eqb, ltb, List, length, take, Some, None, Option, refl, sym, ◌∙◌, inl, inr, arith, eqb-true, ltb-false}
+use Rattle.std.proofs.lemmas.Bool.{cases_Bool, lt-ltb, not-false, true≢false}
+use Rattle.std.proofs.lemmas.List.Folds.{find_at}
 use Rattle.std.proofs.lemmas.Option.{none-some, slice_get_within}
-use Rattle.std.specs.List.{list_any, slice_get}
+use Rattle.std.specs.List.{find, list_any, position, position_or_len, slice_get}
 use Rattle.tables.specs.declared.kinds.TypeKind.{TypeKind}
 use Rattle.tables.specs.declared.kinds.TypeKind.TheVariants as kind
 use Rattle.tables.specs.declared.place.Table.TheVariants as table
@@ -20,6 +21,13 @@ use Rattle.syntax.specs.Types.{type_as, type_at}
 use Rattle.syntax.proofs.Parts.{given_parts}
 use Rattle.loading.specs.Laws.{HasDefault}
 
+-- the place of what is found
+pub position_found : {A : Type 0} (p : A → Bool) (xs : List A) (x : A) → find p xs ≡ Some x → (i : ℕ) × (position p xs ≡ Some i) × (slice_get xs i ≡ Some x)
+position_found p xs x e =
+    let there : slice_get xs (position_or_len p xs) ≡ Some x = sym (find_at p xs) ∙ e in
+    let within = slice_get_within xs (position_or_len p xs) x there in
+    (position_or_len p xs, rw (lt-ltb (position_or_len p xs) (length xs) within) refl, there)
+
 module _ (m : Content) (keeps : NoPlaceBreaks m) where
   -- the first constructor of a data takes nothing
   takes_nothing : (i : ℕ) (k : ConstructorRow) → slice_get m.constructors i ≡ Some k → list_any (λ x. eqb x.number k.number) (take i m.constructors) ≡ false → k.count ≡ 0
@@ -35,7 +43,15 @@ module _ (m : Content) (keeps : NoPlaceBreaks m) where
       let k = find_some (λ c. eqb c.number d) m.constructors e in
       let first = find_row (λ c. eqb c.number d) m.constructors k.0 k.1 in
       let same : k.0.number ≡ d = eqb-true k.0.number d first.2 in
-      (k.0, k.1, takes_nothing first.0 k.0 first.1 (rw same first.3))
+      let place = position_found (λ c. eqb c.number d) m.constructors k.0 k.1 in
+      record {
+        row = place.0;
+        constructor = k.0;
+        first = place.1;
+        there = place.2;
+        of_data = same;
+        takes_nothing = takes_nothing first.0 k.0 first.1 (rw same first.3);
+      }
 
   default_as : (k : Option TypeKind) (ref : ℕ) (t : ValueType) → type_absent m ref k ≡ false → type_as ref k ≡ Some t → HasDefault m t
   default_as None ref t there e = absurd (none-some t e)

@@ -1,5 +1,5 @@
 -- A class of an accepted model implements its interfaces.
-use Rattle.std.proofs.Common.{◌≡◌, ℕ, ◌+◌, ◌-◌, ◌<◌, Bool, true, false, eqb, List, take, Some, None, Option, refl, sym, ap, subst, ◌∙◌, inl, inr, arith}
+use Rattle.std.proofs.Common.{◌≡◌, ℕ, ◌+◌, ◌<◌, Bool, true, false, eqb, List, take, Some, None, Option, refl, sym, ap, subst, ◌∙◌, inl, inr, arith}
 use Rattle.std.proofs.lemmas.Bool.{and_parts, and_from, eqb-true, eq-eqb, not-false, true≢false, cases_lt, le-leb, lt-ltb}
 use Rattle.std.proofs.lemmas.Option.{none-some, slice_get_within}
 use Rattle.std.specs.List.{list_any, slice_get}
@@ -7,7 +7,7 @@ use Rattle.std.specs.Option.{option_map}
 use Rattle.tables.specs.declared.kinds.TypeKind.{TypeKind}
 use Rattle.tables.specs.declared.kinds.TypeKind.TheVariants as kind
 use Rattle.tables.specs.declared.place.Table.TheVariants as table
-use Rattle.tables.specs.declared.place.TableRule.TheVariants.{Shape, Method}
+use Rattle.tables.specs.declared.place.TableRule.TheVariants.{Method}
 use Rattle.tables.specs.declared.rows.ClassRow.{ClassRow}
 use Rattle.tables.specs.declared.rows.InterfaceRow.{InterfaceRow}
 use Rattle.tables.specs.declared.rows.MethodRow.{MethodRow}
@@ -16,10 +16,9 @@ use Rattle.tables.specs.Kinds.{type_kind}
 use Rattle.tables.specs.Layout.{Content}
 use Rattle.rules.specs.Types.{is_interface_kind}
 use Rattle.rules.specs.Words.{at, part}
-use Rattle.rules.proofs.Rows.{known, or_none, at_kept, any_kept, any_row, row_any, find_row, find_some, take_row, part_row, row_of_part}
-use Rattle.placement.specs.Holders.{in_range, method_classes}
+use Rattle.rules.proofs.Rows.{known, at_kept, any_kept, any_row, row_any, find_row, find_some, take_row, row_of_part}
+use Rattle.placement.specs.Holders.{in_range}
 use Rattle.shape.specs.Methods.{fits, lacks_signature, lacks_interface, lacks_type, lacks_listed, class_method}
-use Rattle.shape.specs.Shape.{repeats_name, method_shape, method_shape_in}
 use Rattle.model.specs.Rules.{NoPlaceBreaks}
 use Rattle.syntax.specs.declared.types.ValueType.{ValueType}
 use Rattle.syntax.specs.declared.types.ValueType.TheVariants as type
@@ -31,9 +30,10 @@ use Rattle.typing.specs.Scopes.{entry_type}
 use Rattle.typing.specs.Statements.{method_heading, signature_heading, signature_named}
 use Rattle.loading.specs.Laws.{IsClass, IsMethod, SameTypes, Implements}
 use Rattle.loading.proofs.SameTypes.{same_at, same_lists}
-use Rattle.loading.proofs.Typed.{class_asked, class_held}
+use Rattle.loading.proofs.Shapes.{names_apart}
+use Rattle.loading.proofs.Typed.{class_asked}
 
-mapped_parts : {A B : Type 0} (f : A → B) (o : Option A) (y : B) → option_map f o ≡ Some y → (x : A) × (o ≡ Some x) × (f x ≡ y)
+pub mapped_parts : {A B : Type 0} (f : A → B) (o : Option A) (y : B) → option_map f o ≡ Some y → (x : A) × (o ≡ Some x) × (f x ≡ y)
 mapped_parts f None y e = absurd (none-some y e)
 mapped_parts f (Some x) y e = (x, refl, known e)
 
@@ -76,18 +76,7 @@ module _ (m : Content) (keeps : NoPlaceBreaks m) (i : ℕ) (c : ClassRow) (class
   own_name a b x y first later lt same =
       let p = row_of_part m.methods c.methods_first c.methods_count a x first in
       let q = row_of_part m.methods c.methods_first c.methods_count b y later in
-      let r : ℕ = c.methods_first + b in
-      let shape : method_shape m (method_classes m) r y ≡ false =
-      at_kept m.methods r (method_shape m (method_classes m) r) y (keeps Shape table.Methods r (slice_get_within m.methods r y q.1)) q.1 in
-      let held = class_held m keeps i r c y class q.1 (inside b q.0) in
-      let there : at m.classes held.0.row (method_shape_in m r y) ≡ false = rw held.1 at shape in
-      let in_class : at m.classes i (method_shape_in m r y) ≡ false = rw held.2 at there in
-      let none : repeats_name m r y c ≡ false = (or_none _ _ (at_kept m.classes i (method_shape_in m r y) c in_class class)).0 in
-      let far : r - c.methods_first ≡ b = omega arith in
-      let back : (c.methods_first + a) - c.methods_first ≡ a = omega arith in
-      let before : slice_get (part c.methods_first b m.methods) a ≡ Some x =
-      rw back at (part_row m.methods c.methods_first b (c.methods_first + a) (omega arith) (omega arith) ∙ p.1) in
-      true≢false (sym (eq-eqb x.name y.name same) ∙ any_kept (λ z. eqb z.name y.name) (part c.methods_first b m.methods) a x (rw far at none) before)
+      names_apart m keeps c (c.methods_first + a) (c.methods_first + b) x y (i, class) p.1 q.1 (inside a p.0) (inside b q.0) (omega arith) same
 
   -- the first method of a name is the one
   only_one : (name a b : ℕ) (x y : MethodRow) → slice_get own a ≡ Some x → x.name ≡ name → list_any (λ z. eqb z.name name) (take a own) ≡ false →

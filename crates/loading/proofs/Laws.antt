@@ -1,16 +1,19 @@
 -- What the rules of an accepted model give.
 use Rattle.std.proofs.Common.{◌≡◌, true, None}
 use Rattle.tables.specs.Layout.{Content}
+use Rattle.tables.specs.Limits.{IsWithinLimits}
 use Rattle.model.specs.Rules.{keeps_rules, NoPlaceBreaks}
 use Rattle.model.proofs.Kept.{kept}
 use Rattle.typing.proofs.ExpressionLaws.{inverts, typed_by}
 use Rattle.typing.proofs.PatternLaws.{inverts_pattern, fits_by}
+use Rattle.loading.specs.Accepted.{IsAccepted}
 use Rattle.loading.specs.Laws.{WellTyped, Lawful}
 use Rattle.typing.specs.Typing.{typing_verdict}
 use Rattle.loading.specs.Types.{keeps_types}
 use Rattle.loading.proofs.Defaults.{defaults}
 use Rattle.loading.proofs.Implementing.{signatures}
 use Rattle.loading.proofs.Judging.{types_kept}
+use Rattle.loading.proofs.Shapes.{well_shaped}
 use Rattle.loading.proofs.Typed.{statement_row, functions, statements}
 
 pub well_typed : (m : Content) → NoPlaceBreaks m → keeps_types m ≡ true → WellTyped m
@@ -24,6 +27,9 @@ lawful m keeps = record {
   interfaces = signatures m keeps;
   defaults = defaults m keeps;
 }
+
+pub accepted : (m : Content) → NoPlaceBreaks m → IsWithinLimits m → keeps_types m ≡ true → IsAccepted m
+accepted m keeps limits types = record { typed = well_typed m keeps types; lawful = lawful m keeps; shaped = well_shaped m keeps limits }
 
 -- the tables of a read model without a typing fault
 pub checked : (m : Content) → keeps_rules m ≡ true → typing_verdict m ≡ None → WellTyped m

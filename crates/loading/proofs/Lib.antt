@@ -1,8 +1,9 @@
-mod Defaults
-mod Implementing
+pub mod Defaults
+pub mod Implementing
 mod Judging
 mod Laws
 mod Lifting
 mod SameTypes
-mod Typed
+mod Shapes
+pub mod Typed
 mod Untyped

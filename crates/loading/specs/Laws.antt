@@ -1,7 +1,7 @@
 -- What an accepted model has: types for its functions and its placed statements, methods for the signatures of its interfaces,
 -- and a default for each type.
 use Rattle.std.specs.Prelude.{◌≡◌, ◌↔◌, ℕ, true, map, Some, Ok, Err, Result, nat_eq, ⊤}
-use Rattle.std.specs.List.{find, slice_get}
+use Rattle.std.specs.List.{position, slice_get}
 use Rattle.tables.specs.declared.check.CheckError.{CheckError}
 use Rattle.tables.specs.declared.check.CheckError.TheVariants.{NoMemory, Refused}
 use Rattle.tables.specs.declared.rows.ClassRow.{ClassRow}
@@ -53,12 +53,21 @@ module _ (m : Content) where
   Implements c name h =
       (x : MethodRow) × IsMethod c x × (method_named m c name ≡ Some (method_heading x)) × SameTypes h (method_heading x)
 
-  -- The default of a data is its first constructor, which takes nothing; the other types have one of their own.
+  -- The first constructor of a data, which takes nothing.
+  pub record HasFirstConstructor (d : ℕ) : Type 0 where
+    pub row : ℕ
+    pub constructor : ConstructorRow
+    pub first : position (λ x. nat_eq x.number d) m.constructors ≡ Some row
+    pub there : slice_get m.constructors row ≡ Some constructor
+    pub of_data : constructor.number ≡ d
+    pub takes_nothing : constructor.count ≡ 0
+
+  -- The default of a data is its first constructor; the other types have one of their own.
   abbrev pub HasDefault : ValueType → Type 0
   HasDefault type.Unit = ⊤
   HasDefault type.Bool = ⊤
   HasDefault type.Int = ⊤
-  HasDefault (type.Data d) = (k : ConstructorRow) × (find (λ x. nat_eq x.number d) m.constructors ≡ Some k) × (k.count ≡ 0)
+  HasDefault (type.Data d) = HasFirstConstructor d
   HasDefault (type.Interface i) = ⊤
   HasDefault (type.Future r) = ⊤
 

@@ -11,10 +11,12 @@ use Rattle.tables.specs.declared.check.CheckError.TheVariants.{NoMemory, Refused
 use Rattle.tables.specs.declared.tables.Tables.{Tables}
 use Rattle.tables.specs.Layout.{Content, wrong_length, wrong_counts, content, content_of}
 use Rattle.tables.specs.Least.{or_else, under_rule, verdict_of, Judges}
+use Rattle.tables.specs.Limits.{IsWithinLimits}
 use Rattle.tables.specs.Places.{rule_number}
 use Rattle.tables.specs.Reading.{header_fault, header_verdict, Reads}
 use Rattle.tables.proofs.First.{In, Rising, some_none}
 use Rattle.tables.proofs.Least.{none_rule, judges}
+use Rattle.tables.proofs.Limits.{within_limits}
 use Rattle.model.specs.Reading.{Checks, JudgesBytes, table_faults}
 use Rattle.model.specs.Rules.{at_header, all_rules, judged_with, case_of, verdict_in, keeps_rules}
 
@@ -102,14 +104,24 @@ judge_bytes bs (Ok t) h = judged_by bs None h.0
 judge_bytes bs (Err (Refused f)) h = judged_by bs (Some f) h
 judge_bytes bs (Err NoMemory) h = tt
 
+-- bytes that pass have a header that keeps its rules
+header_keeps : (bs : List ℕ) → verdict_in bs ≡ None → header_verdict bs ≡ None
+header_keeps bs none = by (header_verdict bs) refl
+  where
+    by : (v : Option (Fault TableRule)) → header_verdict bs ≡ v → header_verdict bs ≡ None
+    by (Some f) e = absurd (some_none f (sym (header_decides bs f e) ∙ none))
+    by None e = e
+
 -- the tables of bytes that pass keep every rule by themselves
 pub tables_keep : (bs : List ℕ) (t : Tables) → Checks bs (Ok t) → keeps_rules (content t) ≡ true
 unfolding keeps_rules
 tables_keep bs t h = ap (λ (v : Option (Fault TableRule)). not (is_some v)) (tables_decide (content t) ∙ none)
   where
-    by : (v : Option (Fault TableRule)) → header_verdict bs ≡ v → table_faults (content_of bs) ≡ None
-    by (Some f) e = absurd (some_none f (sym (header_decides bs f e) ∙ h.0))
-    by None e = sym (ap (λ (v : Option (Fault TableRule)). or_else v (table_faults (content_of bs))) e) ∙ sym (decided bs) ∙ h.0
-
     none : table_faults (content t) ≡ None
-    none = ap table_faults h.1 ∙ by (header_verdict bs) refl
+    none =
+        ap table_faults h.1
+        ∙ sym (ap (λ (v : Option (Fault TableRule)). or_else v (table_faults (content_of bs))) (header_keeps bs h.0)) ∙ sym (decided bs) ∙ h.0
+
+-- and their limits
+pub tables_limited : (bs : List ℕ) (t : Tables) → Checks bs (Ok t) → IsWithinLimits (content t)
+tables_limited bs t h = rw h.1 (within_limits bs (header_keeps bs h.0))

@@ -1,5 +1,6 @@
 ghost use Rattle.std.specs.Prelude.{◌≡◌, true};
 ghost use Rattle.tables.specs.Layout.{content, content_of};
+ghost use Rattle.tables.specs.Limits.{IsWithinLimits};
 ghost use Rattle.model.specs.Rules.{keeps_rules};
 
 use tables::tables::Tables;
@@ -13,4 +14,5 @@ pub struct ReadModel {
     tables: Tables,
     ghost spelled: { ∥ content tables ≡ content_of bytes.items ∥₁ },
     ghost keeps: { keeps_rules (content tables) ≡ true },
+    ghost limits: { IsWithinLimits (content tables) },
 }

@@ -32,6 +32,10 @@ shares_name m r x i = nat_le i.first r && nat_lt r (i.first + i.count)
 abbrev pub signature_shape : Content → ℕ → SignatureRow → Bool
 signature_shape m r x = list_any (shares_name m r x) m.interfaces
 
+-- an outside class, by its flag
+abbrev pub is_outside_class : ClassRow → Bool
+is_outside_class x = x.outside == 1
+
 -- A class that lists something else than interfaces, an outside class with fields, and what class 0 may not be: outside, with fields,
 -- without methods, or with a first method that takes something or returns something else than Unit.
 abbrev pub not_interface : Content → ListRow → Bool
@@ -41,11 +45,11 @@ abbrev pub not_main : Content → MethodRow → Bool
 not_main m x = nat_lt 0 x.parameters || not (at m.types x.result is_unit)
 
 abbrev pub not_first : Content → ClassRow → Bool
-not_first m x = x.outside == 1 || nat_lt 0 x.fields || x.methods_count == 0 || at m.methods x.methods_first (not_main m)
+not_first m x = is_outside_class x || nat_lt 0 x.fields || x.methods_count == 0 || at m.methods x.methods_first (not_main m)
 
 abbrev pub class_shape : Content → ℕ → ClassRow → Bool
 class_shape m r x = list_any (not_interface m) (part x.interfaces_first x.interfaces_count m.lists)
-    || (x.outside == 1 && nat_lt 0 x.fields)
+    || (is_outside_class x && nat_lt 0 x.fields)
     || (r == 0 && not_first m x)
 
 -- A method of an outside class with statements, or with another type than Unit, Bool or Int in or out.
@@ -66,7 +70,7 @@ abbrev pub repeats_name : Content → ℕ → MethodRow → ClassRow → Bool
 repeats_name m r x c = list_any (λ y. nat_eq y.name x.name) (between c.methods_first r m.methods)
 
 abbrev pub method_shape_in : Content → ℕ → MethodRow → ClassRow → Bool
-method_shape_in m r x c = repeats_name m r x c || cond (c.outside == 1) (outside_method_shape m x) (inside_method_shape x)
+method_shape_in m r x c = repeats_name m r x c || cond (is_outside_class c) (outside_method_shape m x) (inside_method_shape x)
 
 abbrev pub method_shape_of : Content → ℕ → MethodRow → Option Place → Bool
 method_shape_of m r x None = inside_method_shape x

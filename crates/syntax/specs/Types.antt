@@ -64,3 +64,12 @@ nullable type.Int = false
 nullable (type.Data d) = false
 nullable (type.Interface i) = true
 nullable (type.Future r) = true
+
+-- Unit, Bool and Int
+abbrev pub is_plain_type : ValueType → Bool
+is_plain_type type.Unit = true
+is_plain_type type.Bool = true
+is_plain_type type.Int = true
+is_plain_type (type.Data d) = false
+is_plain_type (type.Interface i) = false
+is_plain_type (type.Future r) = false

@@ -1,6 +1,7 @@
 pub mod Kinds
 pub mod Layout
 pub mod Least
+pub mod Limits
 pub mod Numbers
 pub mod Places
 pub mod Reading

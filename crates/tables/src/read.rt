@@ -1,6 +1,7 @@
 ghost use Rattle.std.specs.Prelude.{◌≡◌, ◌+◌, ◌*◌, ◌^◌, ◌<◌, ◌≤◌, List, length, drop, IfOk};
 ghost use Rattle.tables.specs.Numbers.{rows_of};
 ghost use Rattle.tables.specs.Layout.{wrong_length, header_counts, cells_of, content, cut};
+ghost use Rattle.tables.specs.Limits.{IsWithinLimits};
 ghost use Rattle.tables.specs.Reading.{Reads, header_fault};
 
 use crate::check::CheckError;
@@ -92,6 +93,7 @@ impl Tables {
     /// The tables that the bytes spell, or the rule that their header breaks.
     pub fn read(heap: Global, bytes: &[u8]) -> Result<Tables, ReadError>
         ensures reads { Reads bytes.now result }
+        ensures limits { IfOk result (λ t. IsWithinLimits (content t)) }
     {
         if wrong_length(bytes) {
             return Err(ReadError::Refused(header_fault(TableRule::Length)));

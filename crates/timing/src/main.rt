@@ -7,18 +7,14 @@ use evaluation::cells::Cells;
 use evaluation::evaluator::Evaluator;
 use evaluation::refusal::EvaluationRefusal;
 use evaluation::value::Value;
-use evaluation::workspace::Workspace;
+use evaluation::workspace::{BINDINGS, UNBOUND, Workspace};
 use loading::load::{LoadError, load_input};
-use mapping::mapping::{Binding, Mapping};
 use model::input::Input;
 use std::io::Read;
 use tables::tables::Tables;
 
 /// How often the body is evaluated.
 const EVALUATIONS: usize = 1000;
-
-/// For how many bindings there is memory: four for each visit of a choice.
-const BINDINGS: usize = 40_000;
 
 /// What an evaluation came to, and how many visits it made.
 #[derive(Drop)]
@@ -43,32 +39,25 @@ fn take_in(rt: &HostRuntime, input: &mut Input) -> anyhow::Result<()> {
 }
 
 /// Evaluates the node in this row with all visits of a choice, where nothing is bound and no cell is in use.
-fn evaluated(
-    tables: &Tables,
-    row: u16,
-    memory: &mut [Binding<Value>],
-    cells: &mut Cells,
-) -> Option<Outcome> {
-    cells.cut(0);
-    let mut mapping = Mapping::new(memory);
-    let mut work = Workspace::new(&mut mapping, cells)?;
+fn evaluated(tables: &Tables, row: u16, work: &mut Workspace<'_>) -> Outcome {
+    work.cut_cells(0);
+    work.enter(&[], &[]);
     let before = work.left();
-    let worth = Evaluator { t: tables, this: 0 }.evaluate(&mut work, row);
+    let worth = Evaluator { t: tables, this: 0 }.evaluate(work, row);
     let visits = before.saturating_sub(work.left());
-    Some(Outcome { worth, visits })
+    Outcome { worth, visits }
 }
 
 /// The outcome of the last of all evaluations.
 fn last_outcome(rt: &HostRuntime, tables: &Tables, row: u16) -> anyhow::Result<Option<Outcome>> {
-    let unused = Binding {
-        slot: 0,
-        entry: Value::Unit,
+    let mut memory = vec![in rt.alloc(); UNBOUND; BINDINGS]?;
+    let cells = Cells::new(rt.alloc())?;
+    let Ok(mut work) = Workspace::new(memory.as_mut_slice(), cells) else {
+        return Ok(None);
     };
-    let mut memory = vec![in rt.alloc(); unused; BINDINGS]?;
-    let mut cells = Cells::new(rt.alloc())?;
     let mut last = None;
     for _ in 0..EVALUATIONS {
-        last = evaluated(tables, row, memory.as_mut_slice(), &mut cells);
+        last = Some(evaluated(tables, row, &mut work));
     }
     Ok(last)
 }

@@ -24,24 +24,15 @@ use anyhow::anyhow;
 use evaluation::cells::Cells;
 use evaluation::evaluator::Evaluator;
 use evaluation::value::Value;
-use evaluation::workspace::Workspace;
+use evaluation::workspace::{BINDINGS, UNBOUND, Workspace};
 use loading::accepted::AcceptedModel;
 use loading::load::{LoadError, load_input};
-use mapping::mapping::{Binding, Mapping};
+use mapping::mapping::Binding;
 use model::input::Input;
 use spelling::text::{SpellError, spelled};
 use std::alloc::Global;
 use std::io::{BufRead, BufReader};
 use tables::tables::Tables;
-
-/// How many bindings the visits of a choice may make.
-const BINDINGS: usize = 40_000;
-
-/// What memory for bindings holds before they are made.
-const UNBOUND: Binding<Value> = Binding {
-    slot: 0,
-    entry: Value::Unit,
-};
 
 /// What the node in this row is worth, where nothing is bound.
 fn evaluation_of(
@@ -53,11 +44,11 @@ fn evaluation_of(
     ensures evaluation { IfOk result (IsEvaluationOf (content t.now) row) }
     ensures keeps_type { IfOk result (λ e. KeepsType (content t.now) row e.worth) }
 {
-    let mut cells = Cells::new(heap)?;
-    let mut mapping = Mapping::new(memory);
-    let Some(mut work) = Workspace::new(&mut mapping, &mut cells) else {
+    let cells = Cells::new(heap)?;
+    let Ok(mut work) = Workspace::new(memory, cells) else {
         return Err(anyhow!("too few bindings for the visits of a choice"));
     };
+    work.enter(&[], &[]);
     let all = work.left();
     let worth = Evaluator { t, this: 0 }.evaluate(&mut work, row);
     Ok(Evaluation {

@@ -2,7 +2,7 @@
 ghost use Rattle.std.specs.Prelude.{◌≡◌, [], length, take, option_copied, IfOk};
 ghost use Rattle.std.specs.List.{slice_get};
 ghost use Rattle.std.specs.Option.{option_map};
-ghost use Rattle.evaluation.specs.Values.{data_of};
+ghost use Rattle.evaluation.specs.Values.{HasParts, data_of};
 ghost use Rattle.evaluation.specs.Stores.{held, next_cell, with_cell};
 
 use crate::cells::Cells;
@@ -46,7 +46,8 @@ impl Cells {
     }
 
     /// A new cell, and its number; where all are in use, nothing changes.
-    pub fn make(&mut self, cell: Cell) -> Result<u16, EvaluationRefusal>
+    pub(crate) fn make(&mut self, cell: Cell) -> Result<u16, EvaluationRefusal>
+        requires parts { HasParts (data_of cell) }
         ensures number { result ≡ next_cell (held self.old) }
         ensures made { held self.new ≡ with_cell (held self.old) (data_of cell) }
     {

@@ -20,21 +20,6 @@ use syntax::nodes::children_of;
 use tables::rows::{BranchRow, FunctionRow, NodeRow};
 use tables::tables::Tables;
 
-/// Binds arguments to the slots from 0 on.
-fn bind_arguments(work: &mut Workspace<'_, '_>, arguments: &[Value])
-    requires room { length work.old.bindings + length arguments.now + 4 * work.old.state.left ≤ work.old.capacity }
-    requires few { length arguments.now ≤ 4 }
-    ensures bound { work.new.bindings ≡ bound_from 0 arguments.now work.old.bindings }
-    ensures state { work.new.state ≡ work.old.state }
-    ensures capacity { work.new.capacity ≡ work.old.capacity }
-{
-    let mut slot = 0;
-    for argument in arguments {
-        work.bind(slot, *argument);
-        slot += 1;
-    }
-}
-
 /// The branches from this one on, of which the first are those of its case.
 fn branches_from(t: &Tables, first: u16) -> &[BranchRow]
     ensures branches { result.now ≡ drop first (content t.now).branches }
@@ -52,7 +37,7 @@ impl Evaluator<'_> {
     /// Data of a constructor: with parts it takes a cell, without it takes none.
     fn built(
         &self,
-        work: &mut Workspace<'_, '_>,
+        work: &mut Workspace<'_>,
         constructor: u16,
         parts: Values,
     ) -> Result<Value, EvaluationRefusal>
@@ -68,7 +53,7 @@ impl Evaluator<'_> {
     #[cycle(worths)]
     pub(crate) fn data(
         &self,
-        work: &mut Workspace<'_, '_>,
+        work: &mut Workspace<'_>,
         base: usize,
         row: &NodeRow,
         worth: &mut Value,
@@ -84,7 +69,7 @@ impl Evaluator<'_> {
     #[cycle(worths)]
     pub(crate) fn call(
         &self,
-        work: &mut Workspace<'_, '_>,
+        work: &mut Workspace<'_>,
         base: usize,
         row: &NodeRow,
         worth: &mut Value,
@@ -105,7 +90,7 @@ impl Evaluator<'_> {
     #[cycle(worths)]
     fn called(
         &self,
-        work: &mut Workspace<'_, '_>,
+        work: &mut Workspace<'_>,
         function: FunctionRow,
         arguments: &[Value],
         worth: &mut Value,
@@ -115,7 +100,7 @@ impl Evaluator<'_> {
         ensures ran { Ran (content self.now.t.now) self.now.this (called (Some function) arguments.now) work.old (answered (λ _. worth.new) result) work.new }
     {
         let earlier = work.length();
-        bind_arguments(work, arguments);
+        work.bind_all(0, arguments);
         let ran = self.worth(work, earlier, function.body, worth);
         work.cut(earlier);
         ran
@@ -124,7 +109,7 @@ impl Evaluator<'_> {
     #[cycle(worths)]
     pub(crate) fn case(
         &self,
-        work: &mut Workspace<'_, '_>,
+        work: &mut Workspace<'_>,
         base: usize,
         examined: u16,
         first: u16,
@@ -143,7 +128,7 @@ impl Evaluator<'_> {
     #[cycle(worths)]
     fn chosen(
         &self,
-        work: &mut Workspace<'_, '_>,
+        work: &mut Workspace<'_>,
         base: usize,
         value: &Value,
         branches: &[BranchRow],
@@ -168,7 +153,7 @@ impl Evaluator<'_> {
     #[cycle(worths)]
     fn branch_worth(
         &self,
-        work: &mut Workspace<'_, '_>,
+        work: &mut Workspace<'_>,
         base: usize,
         value: &Value,
         branch: BranchRow,
@@ -188,7 +173,7 @@ impl Evaluator<'_> {
     #[cycle(worths)]
     fn taken(
         &self,
-        work: &mut Workspace<'_, '_>,
+        work: &mut Workspace<'_>,
         base: usize,
         value: &Value,
         branch: BranchRow,

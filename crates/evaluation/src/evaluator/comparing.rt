@@ -18,7 +18,7 @@ impl Evaluator<'_> {
     #[cycle(comparing)]
     pub(crate) fn same(
         &self,
-        work: &mut Workspace<'_, '_>,
+        work: &mut Workspace<'_>,
         v: Value,
         w: Value,
     ) -> Result<bool, EvaluationRefusal>
@@ -33,7 +33,7 @@ impl Evaluator<'_> {
     #[cycle(comparing)]
     fn same_values(
         &self,
-        work: &mut Workspace<'_, '_>,
+        work: &mut Workspace<'_>,
         v: Value,
         w: Value,
     ) -> Result<bool, EvaluationRefusal>
@@ -51,7 +51,7 @@ impl Evaluator<'_> {
     #[cycle(comparing)]
     fn same_cells(
         &self,
-        work: &mut Workspace<'_, '_>,
+        work: &mut Workspace<'_>,
         i: u16,
         j: u16,
     ) -> Result<bool, EvaluationRefusal>
@@ -71,7 +71,7 @@ impl Evaluator<'_> {
     #[cycle(comparing)]
     fn same_parts(
         &self,
-        work: &mut Workspace<'_, '_>,
+        work: &mut Workspace<'_>,
         vs: &[Value],
         ws: &[Value],
     ) -> Result<bool, EvaluationRefusal>

@@ -34,7 +34,7 @@ impl Evaluator<'_> {
     #[cycle(matching)]
     pub(crate) fn fits(
         &self,
-        work: &mut Workspace<'_, '_>,
+        work: &mut Workspace<'_>,
         base: usize,
         row: u16,
         value: &Value,
@@ -54,7 +54,7 @@ impl Evaluator<'_> {
     #[cycle(matching)]
     fn node_fits(
         &self,
-        work: &mut Workspace<'_, '_>,
+        work: &mut Workspace<'_>,
         at: Place,
         pattern: &NodeRow,
         value: &Value,
@@ -83,7 +83,7 @@ impl Evaluator<'_> {
     #[cycle(matching)]
     fn constructor_fits(
         &self,
-        work: &mut Workspace<'_, '_>,
+        work: &mut Workspace<'_>,
         at: Place,
         pattern: &NodeRow,
         value: &Value,
@@ -105,7 +105,7 @@ impl Evaluator<'_> {
     #[cycle(matching)]
     fn cell_fits(
         &self,
-        work: &mut Workspace<'_, '_>,
+        work: &mut Workspace<'_>,
         at: Place,
         pattern: &NodeRow,
         cell: u16,
@@ -128,7 +128,7 @@ impl Evaluator<'_> {
     #[cycle(matching)]
     fn parts_fit(
         &self,
-        work: &mut Workspace<'_, '_>,
+        work: &mut Workspace<'_>,
         at: Place,
         children: &[u16],
         parts: &[Value],
@@ -152,7 +152,7 @@ impl Evaluator<'_> {
     #[cycle(matching)]
     fn child_fits(
         &self,
-        work: &mut Workspace<'_, '_>,
+        work: &mut Workspace<'_>,
         at: Place,
         child: u16,
         part: &Value,
@@ -171,7 +171,7 @@ impl Evaluator<'_> {
     #[inline(always)]
     fn variable_fits(
         &self,
-        work: &mut Workspace<'_, '_>,
+        work: &mut Workspace<'_>,
         base: usize,
         slot: u16,
         value: &Value,

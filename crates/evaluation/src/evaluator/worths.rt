@@ -27,7 +27,7 @@ use tables::rows::NodeRow;
 /// Writes the newest value of the slot.
 #[inline(always)]
 fn slot_worth(
-    work: &Workspace<'_, '_>,
+    work: &Workspace<'_>,
     base: usize,
     slot: u16,
     worth: &mut Value,
@@ -66,7 +66,7 @@ impl Evaluator<'_> {
     #[cycle(worths)]
     pub(crate) fn worth(
         &self,
-        work: &mut Workspace<'_, '_>,
+        work: &mut Workspace<'_>,
         base: usize,
         row: u16,
         worth: &mut Value,
@@ -88,7 +88,7 @@ impl Evaluator<'_> {
     #[cycle(worths)]
     fn node_worth(
         &self,
-        work: &mut Workspace<'_, '_>,
+        work: &mut Workspace<'_>,
         base: usize,
         row: &NodeRow,
         worth: &mut Value,
@@ -127,7 +127,7 @@ impl Evaluator<'_> {
     #[cycle(worths)]
     fn operands(
         &self,
-        work: &mut Workspace<'_, '_>,
+        work: &mut Workspace<'_>,
         base: usize,
         a: u16,
         b: u16,
@@ -144,7 +144,7 @@ impl Evaluator<'_> {
     #[cycle(worths)]
     fn sum(
         &self,
-        work: &mut Workspace<'_, '_>,
+        work: &mut Workspace<'_>,
         base: usize,
         a: u16,
         b: u16,
@@ -160,7 +160,7 @@ impl Evaluator<'_> {
     #[cycle(worths)]
     fn difference(
         &self,
-        work: &mut Workspace<'_, '_>,
+        work: &mut Workspace<'_>,
         base: usize,
         a: u16,
         b: u16,
@@ -176,7 +176,7 @@ impl Evaluator<'_> {
     #[cycle(worths)]
     fn quotient(
         &self,
-        work: &mut Workspace<'_, '_>,
+        work: &mut Workspace<'_>,
         base: usize,
         a: u16,
         b: u16,
@@ -192,7 +192,7 @@ impl Evaluator<'_> {
     #[cycle(worths)]
     fn comparison(
         &self,
-        work: &mut Workspace<'_, '_>,
+        work: &mut Workspace<'_>,
         base: usize,
         a: u16,
         b: u16,
@@ -208,7 +208,7 @@ impl Evaluator<'_> {
     #[cycle(worths)]
     fn equality(
         &self,
-        work: &mut Workspace<'_, '_>,
+        work: &mut Workspace<'_>,
         base: usize,
         a: u16,
         b: u16,
@@ -224,7 +224,7 @@ impl Evaluator<'_> {
     #[cycle(worths)]
     fn negation(
         &self,
-        work: &mut Workspace<'_, '_>,
+        work: &mut Workspace<'_>,
         base: usize,
         a: u16,
         worth: &mut Value,
@@ -241,7 +241,7 @@ impl Evaluator<'_> {
     #[cycle(worths)]
     fn conjunction(
         &self,
-        work: &mut Workspace<'_, '_>,
+        work: &mut Workspace<'_>,
         base: usize,
         a: u16,
         b: u16,
@@ -259,7 +259,7 @@ impl Evaluator<'_> {
     #[cycle(worths)]
     pub(crate) fn worths(
         &self,
-        work: &mut Workspace<'_, '_>,
+        work: &mut Workspace<'_>,
         base: usize,
         rows: &[u16],
         worths: &mut Values,

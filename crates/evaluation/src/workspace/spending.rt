@@ -1,39 +1,79 @@
 //! Making a workspace; spending visits, binding slots, and making cells in it.
-ghost use Rattle.std.specs.Prelude.{◌≡◌, suc, ◌+◌, ◌-◌, ◌*◌, ◌≤◌, ◌<◌, cond, ◌==◌, ◌∷◌, length, take, Ok, Err, nat_le, is_some, option_copied, IfOk, IfSome};
+ghost use Rattle.std.specs.Prelude.{◌≡◌, suc, ◌+◌, ◌-◌, ◌*◌, ◌≤◌, ◌<◌, cond, ◌==◌, ◌∷◌, length, take, Ok, Err, nat_le, is_ok, option_copied, IfOk, IfErr};
 ghost use Rattle.std.specs.List.{slice_get};
 ghost use Rattle.std.specs.Option.{option_map};
 ghost use Rattle.mapping.specs.Bindings.{lookup, since, oldest, bound, capacity};
-ghost use Rattle.evaluation.specs.Carried.{Pays};
+ghost use Rattle.evaluation.specs.Carried.{Pays, idle, statement_environment};
+ghost use Rattle.evaluation.specs.Rules.{bound_from};
 ghost use Rattle.evaluation.specs.Stores.{held, next_cell, with_cell};
-ghost use Rattle.evaluation.specs.Values.{data_of};
+ghost use Rattle.evaluation.specs.Values.{HasParts, data_of};
 
 use crate::cells::Cells;
 use crate::refusal::EvaluationRefusal;
 use crate::value::{Cell, Value};
-use crate::workspace::Workspace;
-use mapping::mapping::Mapping;
+use crate::workspace::{BINDINGS, Workspace};
+use mapping::mapping::{Binding, Mapping};
 
 /// How many visits a choice has.
 const VISITS: usize = 10_000;
 
-impl<'a, 'b> Workspace<'a, 'b> {
-    /// A workspace with all visits of a choice, if there is memory for all bindings that they may make.
-    pub fn new(
-        mapping: &'a mut Mapping<'b, Value>,
-        cells: &'a mut Cells,
-    ) -> Option<Workspace<'a, 'b>>
-        ensures given { is_some result ≡ nat_le (length (bound mapping.old) + 40000) (capacity mapping.old) }
-        ensures work { IfSome result (λ w. w ≡ record { bindings = bound mapping.old; state = record { left = 10000; cells = held cells.old }; capacity = capacity mapping.old }) }
+impl<'a> Workspace<'a> {
+    /// A workspace in which nothing is bound and no visit is left. If the memory is too small for the bindings of a choice, there is none,
+    /// and the cells are given back as they are.
+    pub fn new(memory: &'a mut [Binding<Value>], cells: Cells) -> Result<Workspace<'a>, Cells>
+        ensures given { is_ok result ≡ nat_le 40016 (length memory.old) }
+        ensures work { IfOk result (λ w. w ≡ idle (held cells) (length memory.old)) }
+        ensures cells { IfErr result (λ rest. rest ≡ cells) }
     {
-        let free = mapping.capacity().saturating_sub(mapping.length());
-        if free < 4 * VISITS {
-            return None;
+        if memory.len() < BINDINGS {
+            return Err(cells);
         }
-        Some(Workspace {
-            mapping,
+        Ok(Workspace {
+            mapping: Mapping::new(memory),
             cells,
-            left: VISITS,
+            left: 0,
         })
+    }
+
+    /// The environment of a statement, with all visits of a choice: the locals are bound to the slots from 0 on, and then the fields to
+    /// those from 128 on. Nothing else is bound.
+    pub fn enter(&mut self, locals: &[Value], fields: &[Value])
+        requires locals { length locals.now ≤ 8 }
+        requires fields { length fields.now ≤ 8 }
+        ensures bound { self.new.bindings ≡ statement_environment locals.now fields.now }
+        ensures state { self.new.state ≡ record { left = 10000; cells = self.old.state.cells } }
+        ensures capacity { self.new.capacity ≡ self.old.capacity }
+    {
+        self.clear();
+        self.bind_all(0, locals);
+        self.bind_all(128, fields);
+        self.left = VISITS;
+    }
+
+    /// Cuts off all bindings, and leaves no visit.
+    fn clear(&mut self)
+        ensures work { self.new ≡ idle self.old.state.cells self.old.capacity }
+        ensures memory { 40016 ≤ self.new.capacity }
+    {
+        self.left = 0;
+        self.mapping.cut(0);
+    }
+
+    /// Binds values to the slots from this one on, in their order.
+    pub(crate) fn bind_all(&mut self, first: u16, values: &[Value])
+        requires few { length values.now ≤ 8 }
+        requires first { first ≤ 128 }
+        requires room { length self.old.bindings + length values.now + 4 * self.old.state.left ≤ self.old.capacity }
+        ensures bound { self.new.bindings ≡ bound_from first values.now self.old.bindings }
+        ensures more { length self.new.bindings ≡ length self.old.bindings + length values.now }
+        ensures state { self.new.state ≡ self.old.state }
+        ensures capacity { self.new.capacity ≡ self.old.capacity }
+    {
+        let mut slot = first;
+        for value in values {
+            self.bind(slot, *value);
+            slot += 1;
+        }
     }
 
     /// How many visits are left.
@@ -51,7 +91,7 @@ impl<'a, 'b> Workspace<'a, 'b> {
     }
 
     /// Cuts back to the first `earlier` cells.
-    pub(crate) fn cut_cells(&mut self, earlier: usize)
+    pub fn cut_cells(&mut self, earlier: usize)
         ensures cells { self.new.state.cells ≡ take earlier self.old.state.cells }
         ensures left { self.new.state.left ≡ self.old.state.left }
         ensures bindings { self.new.bindings ≡ self.old.bindings }
@@ -69,7 +109,7 @@ impl<'a, 'b> Workspace<'a, 'b> {
 
     /// The value of the slot among the bindings made since there were `base`.
     #[inline(always)]
-    pub(crate) fn find(&self, base: usize, slot: u16) -> Option<Value>
+    pub fn find(&self, base: usize, slot: u16) -> Option<Value>
         ensures found { result ≡ lookup slot (since base self.now.bindings) }
     {
         self.mapping.find(base, slot)
@@ -116,6 +156,7 @@ impl<'a, 'b> Workspace<'a, 'b> {
 
     /// A new cell, and its number.
     pub(crate) fn make(&mut self, cell: Cell) -> Result<u16, EvaluationRefusal>
+        requires parts { HasParts (data_of cell) }
         ensures number { result ≡ next_cell self.old.state.cells }
         ensures cells { self.new.state.cells ≡ with_cell self.old.state.cells (data_of cell) }
         ensures left { self.new.state.left ≡ self.old.state.left }

@@ -3,6 +3,7 @@ ghost use Rattle.std.specs.Prelude.{◌≡◌, None};
 ghost use Rattle.tables.specs.Layout.{content};
 ghost use Rattle.typing.specs.Typing.{typing_verdict};
 ghost use Rattle.model.specs.Rules.{NoPlaceBreaks};
+ghost use Rattle.loading.specs.Accepted.{IsAccepted};
 ghost use Rattle.loading.specs.Accepting.{ChecksTypes, JudgesTypes};
 ghost use Rattle.loading.specs.Laws.{WellTyped, Lawful, PassesTyped};
 
@@ -46,13 +47,14 @@ impl AcceptedModel {
         self.model.bytes()
     }
 
-    /// The tables that the bytes spell. No place of them breaks a rule, and they are well typed.
+    /// The tables that the bytes spell. No place of them breaks a rule, and they have all that an accepted model has.
     #[tactic(auto, using(crate::proofs::Laws::well_typed, crate::proofs::Laws::lawful))]
     pub fn tables(&self) -> &Tables
         ensures tables { result.now ≡ self.now.model.tables }
         ensures kept { NoPlaceBreaks (content result.now) }
         ensures typed { WellTyped (content result.now) }
         ensures laws { Lawful (content result.now) }
+        ensures accepted { IsAccepted (content result.now) }
     {
         self.model.tables()
     }

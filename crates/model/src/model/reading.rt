@@ -1,6 +1,7 @@
 //! Reading a model: a check on the bytes, which may refuse, and then the move, which cannot.
 ghost use Rattle.std.specs.Prelude.{◌≡◌, IfOk, Ok};
 ghost use Rattle.tables.specs.Layout.{content};
+ghost use Rattle.tables.specs.Limits.{IsWithinLimits};
 ghost use Rattle.model.specs.Reading.{Checks, JudgesBytes, ReadsModel, table_faults};
 ghost use Rattle.model.specs.Rules.{NoPlaceBreaks};
 
@@ -66,10 +67,11 @@ impl ReadModel {
         self.bytes.as_slice()
     }
 
-    /// The tables that the bytes spell. No place of them breaks a rule.
+    /// The tables that the bytes spell. No place of them breaks a rule, and they keep their limits.
     pub fn tables(&self) -> &Tables
         ensures tables { result.now ≡ self.now.tables }
         ensures kept { NoPlaceBreaks (content result.now) }
+        ensures limits { IsWithinLimits (content result.now) }
     {
         &self.tables
     }

@@ -269,7 +269,7 @@ called-returns t c =
     let h = c.worth-ran.ensures.ran in
     let cut = c.cut.ensures.oldest in
     record {
-      ran = ran_called _ _ c.args.function.body c.args.arguments.now c.bind_arguments.ensures.bound c.bind_arguments.ensures.state c.bind_arguments.ensures.capacity
+      ran = ran_called _ _ c.args.function.body c.args.arguments.now c.bind_all.ensures.bound c.bind_all.ensures.state c.bind_all.ensures.capacity
           (rw own at h) (rw own at cut) c.cut.ensures.state c.cut.ensures.capacity;
     }
 
@@ -452,5 +452,5 @@ pub called-worth-ran-requires : goal.called-worth-ran-requires
 called-worth-ran-requires t c =
     let own = c.length-earlier.ensures.length in
     let longer = bound_longer 0 c.args.arguments.now c.args.work.now.bindings in
-    let left = ap (λ (s : State). s.left) c.bind_arguments.ensures.state in
-    (omega arith, rw (own, c.bind_arguments.ensures.bound) longer)
+    let left = ap (λ (s : State). s.left) c.bind_all.ensures.state in
+    (omega arith, rw (own, c.bind_all.ensures.bound) longer)

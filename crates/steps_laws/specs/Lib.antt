@@ -1,0 +1,3 @@
+pub mod Halted
+pub mod Laws
+pub mod Runs

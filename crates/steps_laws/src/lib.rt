@@ -1,0 +1,5 @@
+//! The laws of runs.
+#![tactic(auto)]
+
+pub mod choices;
+pub mod runs;

@@ -1,0 +1,9 @@
+pub mod Ends
+pub mod Handing
+pub mod Lasting
+pub mod OrderedCalling
+pub mod OrderedEnds
+pub mod OrderedLocal
+pub mod OrderedSteps
+pub mod Ordering
+pub mod Shifting

@@ -1,0 +1,8 @@
+mod Examples
+mod Heating
+mod Lighting
+mod Orders
+mod Radio
+mod Refusals
+mod StartUp
+mod Values

@@ -1,0 +1,27 @@
+//! Runs of small models over a house, computed from the definitions of steps: worked examples, and trials whose answers were found apart from them.
+#![tactic(auto)]
+
+ghost use Rattle.steps_trials.specs.Examples.{WorkedExamples};
+ghost use Rattle.steps_trials.specs.Heating.{HeatingTrials};
+ghost use Rattle.steps_trials.specs.Lighting.{LightingTrials};
+ghost use Rattle.steps_trials.specs.Radio.{RadioTrials};
+ghost use Rattle.steps_trials.specs.StartUp.{StartUpTrials};
+ghost use Rattle.steps_trials.specs.Values.{ValueTrials};
+ghost use Rattle.steps_trials.specs.Orders.{OrderTrials};
+ghost use Rattle.steps_trials.specs.Refusals.{RefusalTrials};
+
+/// Does nothing; that the trials hold is computed from the definitions.
+pub fn trials_hold()
+    ensures heating { HeatingTrials }
+    ensures lighting { LightingTrials }
+    ensures radio { RadioTrials }
+    ensures start_up { StartUpTrials }
+    ensures values { ValueTrials }
+    ensures orders { OrderTrials }
+    ensures refusals { RefusalTrials }
+{}
+
+/// Does nothing; that the worked examples come out is computed from the definitions.
+pub fn examples_hold()
+    ensures examples { WorkedExamples }
+{}

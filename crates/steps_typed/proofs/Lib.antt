@@ -1,0 +1,15 @@
+pub mod Endings
+pub mod Equivalence
+pub mod Filling
+pub mod Keeping
+pub mod Messages
+pub mod Reaching
+pub mod Slots
+pub mod StepsTyped
+pub mod TypedCalling
+pub mod TypedCreating
+pub mod TypedLocal
+pub mod TypedReplying
+pub mod TypedReturning
+pub mod TypedSteps
+pub mod Typings
