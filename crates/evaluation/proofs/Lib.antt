@@ -1,5 +1,4 @@
 mod Carrying
-mod Computed
 pub mod Depths
 pub mod Evaluating
 pub mod Growing

@@ -1,7 +1,6 @@
 pub mod Arithmetic
 pub mod Carried
 pub mod Evaluation
-pub mod Examples
 pub mod Laws
 pub mod Matching
 pub mod Plans

@@ -4,7 +4,6 @@
 pub mod arithmetic;
 pub mod cells;
 pub mod evaluator;
-pub mod examples;
 pub mod laws;
 mod operators;
 pub mod refusal;

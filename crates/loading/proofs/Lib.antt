@@ -1,7 +1,7 @@
 pub mod Defaults
 pub mod Implementing
 mod Judging
-mod Laws
+pub mod Laws
 mod Lifting
 mod SameTypes
 mod Shapes

@@ -1,2 +1,3 @@
 pub mod Counting
 pub mod Items
+pub mod Playing

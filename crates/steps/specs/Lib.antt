@@ -15,5 +15,6 @@ pub mod Steps
 pub mod Opening
 pub mod Account
 pub mod Observing
+pub mod Histories
 pub mod Sound
 pub mod Houses

@@ -27,7 +27,7 @@ module _ {A : Type 0} (p : A → Bool) where
       let b : passing p (take (suc k) (x ∷ xs)) ≡ cond {A = ℕ} (p x) 1 0 + passing p (take k xs) = refl in
       omega arith
 
-  counts_to : (xs : List A) (q : ℕ → Bool) → ((k : ℕ) → q (suc k) ≡ passes (slice_get xs k) p) → (k : ℕ) → count_to k q ≡ passing p (take k xs)
+  pub counts_to : (xs : List A) (q : ℕ → Bool) → ((k : ℕ) → q (suc k) ≡ passes (slice_get xs k) p) → (k : ℕ) → count_to k q ≡ passing p (take k xs)
   counts_to [] q same zero = refl
   counts_to (x ∷ xs) q same zero = refl
   counts_to xs q same (suc k) =
@@ -45,7 +45,7 @@ module _ (m : Content) (c : Configuration) (waits : Waits) (sound : Sound m c wa
   some_when true s = refl
   some_when false s = refl
 
-  waits_if : (o : Option CallRecord) → is_some (given o (waiting_sort m)) ≡ passes o is_out
+  pub waits_if : (o : Option CallRecord) → is_some (given o (waiting_sort m)) ≡ passes o is_out
   waits_if None = refl
   waits_if (Some x) = some_when (is_outside x.state) (result_sort m x)
 

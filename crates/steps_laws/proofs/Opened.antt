@@ -36,19 +36,19 @@ only x P h (suc zero) y e = subst (P 1) (known e) h
 only x P h (suc (suc n)) y e = absurd (none-some y e)
 
 module _ (m : Content) (laws : Lawful m) (shaped : WellShaped m) where
-  main : HasMainClass m
+  pub main : HasMainClass m
   main = shaped.main
 
-  abbrev call : CallRecord
+  abbrev pub call : CallRecord
   call = first_moment m (record { object = 1; arguments = [] }) main.class.methods_first main.method (state.Active None) None
 
-  abbrev beginning : List CallRecord → Configuration
+  abbrev pub beginning : List CallRecord → Configuration
   beginning calls = record { objects = first_object ∷ []; calls = calls; cells = []; groups = 1; returned = 0; answered = 0 }
 
-  abbrev first : Configuration
+  abbrev pub first : Configuration
   first = beginning (call ∷ [])
 
-  opened_is : first ≡ first_configuration m
+  pub opened_is : first ≡ first_configuration m
   opened_is =
       ap beginning (sym (ap (λ (o : Option _). first_calls m (option_map (λ k. k.methods_first) o)) main.class_there
       ∙ ap (first_call m main.class.methods_first) main.method_there))

@@ -16,7 +16,7 @@ use Rattle.steps_laws.specs.Laws.{ChoicesKeepIdentities, ChoicesKeepSound, Choic
 
 module _ (m : Content) (c : Configuration) (waits : Waits) (sound : Sound m c waits) where
   -- every call's object is there
-  have_objects : HaveObjects c
+  pub have_objects : HaveObjects c
   have_objects n x there =
       let fits = sound.typed.calls n x there in
       let p = given_parts (object_at c x.object) (λ y. slice_get m.classes y.class) fits.class fits.of_class in

@@ -31,7 +31,7 @@ module _ {O : Type 0} (g : Ghosts O) where
     pub upcoming_waits : (o : O) (r : Reply) → g.upcoming o ≡ Some r → g.waits o r.call ≡ Some (sort_of r.value)
 
   -- An outside that does what it is asked has then waiting what was to wait.
-  pub waits_become : (o o′ : O) (r : Request) → Fulfils g o r o′ → WaitsBecome (g.waits o) r (g.waits o′)
+  waits_become : (o o′ : O) (r : Request) → Fulfils g o r o′ → WaitsBecome (g.waits o) r (g.waits o′)
   waits_become o o′ Request.nothing does = λ n. ap (λ (p : O). g.waits p n) does
   waits_become o o′ (Request.take c) does = does.joins refl
   waits_become o o′ (Request.deliver n) does = does.leaves
@@ -86,7 +86,7 @@ module _ {O : Type 0} (g : Ghosts O) where
     same_later : (x y z : CallRecord) → IsSameCall x y → IsSameCall y z → IsSameCall x z
     same_later x y z s t = record { object = t.object ∙ s.object; method = t.method ∙ s.method; caller = t.caller ∙ s.caller }
 
-    keeps_later : (b c d : Configuration) → KeepsIdentities b c → KeepsIdentities c d → KeepsIdentities b d
+    pub keeps_later : (b c d : Configuration) → KeepsIdentities b c → KeepsIdentities c d → KeepsIdentities b d
     keeps_later b c d first later = record {
       calls = λ n x there. (
           let p = first.calls n x there in
@@ -96,7 +96,7 @@ module _ {O : Type 0} (g : Ghosts O) where
       objects = objects_then b c d first.objects later.objects;
     }
 
-    keeps_same : (c : Configuration) → KeepsIdentities c c
+    pub keeps_same : (c : Configuration) → KeepsIdentities c c
     keeps_same c = record {
       calls = λ n x there. (x, there, record { object = refl; method = refl; caller = refl });
       objects = objects_same c;

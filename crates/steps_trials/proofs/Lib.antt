@@ -1,4 +1,3 @@
-mod Examples
 mod Heating
 mod Lighting
 mod Orders

@@ -1,4 +1,3 @@
-pub mod Examples
 pub mod Heating
 pub mod Lighting
 pub mod Listings

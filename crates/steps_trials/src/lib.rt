@@ -1,7 +1,6 @@
-//! Runs of small models over a house, computed from the definitions of steps: worked examples, and trials whose answers were found apart from them.
+//! Runs of small models over a house, computed from the definitions of steps: trials, whose answers were found apart from them.
 #![tactic(auto)]
 
-ghost use Rattle.steps_trials.specs.Examples.{WorkedExamples};
 ghost use Rattle.steps_trials.specs.Heating.{HeatingTrials};
 ghost use Rattle.steps_trials.specs.Lighting.{LightingTrials};
 ghost use Rattle.steps_trials.specs.Radio.{RadioTrials};
@@ -19,9 +18,4 @@ pub fn trials_hold()
     ensures values { ValueTrials }
     ensures orders { OrderTrials }
     ensures refusals { RefusalTrials }
-{}
-
-/// Does nothing; that the worked examples come out is computed from the definitions.
-pub fn examples_hold()
-    ensures examples { WorkedExamples }
 {}

@@ -3,7 +3,7 @@
 
 pub mod check;
 pub mod kinds;
-mod numbers;
+pub mod numbers;
 pub mod place;
 pub mod read;
 pub mod rows;

@@ -4,7 +4,7 @@ ghost use Rattle.tables.specs.Numbers.{numbers_of, rows_of};
 use std::alloc::{AllocError, Global};
 
 /// The two-byte numbers that the bytes spell, the high byte first.
-pub(crate) fn numbers(heap: Global, bytes: &[u8]) -> Result<Vec<u16>, AllocError>
+pub fn numbers(heap: Global, bytes: &[u8]) -> Result<Vec<u16>, AllocError>
     ensures spelled { IfOk result (λ v. v.items ≡ numbers_of bytes.now) }
 {
     let mut numbers = Vec::with_capacity(heap, bytes.len() / 2)?;

@@ -1,15 +1,19 @@
 //! Taking in an input piece by piece, and the model that it begins with.
 ghost use Rattle.std.specs.Prelude.{◌≡◌, ℕ, ◌+◌, ◌^◌, ◌≤◌, List, [], ◌++◌, length, is_ok, IfOk, slice_index};
 ghost use Rattle.tables.specs.Layout.{stated_length};
-ghost use Rattle.model.specs.Input.{Keeps, Absorbs, GivesModel, model_in};
+ghost use Rattle.model.specs.Input.{Keeps, Absorbs, GivesModel, GivesBehind, model_in};
 
 use crate::input::Input;
 use std::alloc::{AllocError, Global};
 use tables::place::{Fault, TableRule};
 use tables::read::header_fault;
 
-/// The bytes of the largest model: every table at its limit.
-const LARGEST: usize = 43_477;
+/// The bytes that are kept: those of the largest model, whose tables are all at their limits, which are 43,477, and of what
+/// follows it one more than the longest schedule has, so that a longer one shows.
+const KEPT: usize = 51_675;
+
+/// How many of these follow the largest model.
+const KEPT_BEHIND: usize = 8_198;
 
 fn byte(bytes: &[u8], at: usize) -> u8
     ensures byte { result ≡ slice_index bytes.now at }
@@ -36,7 +40,7 @@ impl Input {
         ensures empty { IfOk result (λ i. Keeps i []) }
     {
         Ok(Input {
-            kept: Vec::with_capacity(heap, LARGEST)?,
+            kept: Vec::with_capacity(heap, KEPT)?,
             total: 0,
         })
     }
@@ -45,7 +49,7 @@ impl Input {
     pub fn absorb(&mut self, piece: &[u8]) -> Result<(), AllocError>
         ensures absorbs { Absorbs self.old piece.now result self.new }
     {
-        let room = LARGEST - self.kept.len();
+        let room = KEPT - self.kept.len();
         self.kept
             .extend_from_slice(&piece[0..room.min(piece.len())])?;
         self.total = self.total.saturating_add(piece.len());
@@ -65,10 +69,20 @@ impl Input {
             kept.truncate(end);
             return Ok(kept);
         }
-        // all of it is there, and it is longer than the largest model
+        // all of it is there, and it is longer than all that is kept
         if byte(kept.as_slice(), 4) != 1 {
             return Err(header_fault(TableRule::Length));
         }
         Err(header_fault(TableRule::Counts))
+    }
+
+    /// The bytes behind the model, or so many of them that more is no schedule: where the model breaks no rule of the tables.
+    pub fn behind(&self) -> &[u8]
+        ensures behind { (input : List ℕ) → Keeps self.now input → GivesBehind input result.now }
+    {
+        let kept = self.kept.as_slice();
+        let end = kept.len().min(stated_length(kept) + 4);
+        let rest = &kept[end..];
+        &rest[0..rest.len().min(KEPT_BEHIND)]
     }
 }

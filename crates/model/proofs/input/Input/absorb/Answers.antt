@@ -10,7 +10,7 @@ returns-in_err-extend_from_slice c =
 
 pub returns : goal.returns
 returns c =
-    let room : c.min.result ≡ min (43477 - length (vec_items c.args.self.now.kept)) (length c.args.piece.now) =
+    let room : c.min.result ≡ min (51675 - length (vec_items c.args.self.now.kept)) (length c.args.piece.now) =
     omega (arith, c.min.ensures, c.len-room.ensures, c.args.self.now.kept.ok.0) in
     record {
       absorbs = λ input h. keeps_more c.args.self.now _ c.args.piece.now input c.min.result h room

@@ -1,0 +1,4 @@
+mod Entries
+mod Houses
+mod Lines
+mod Schedules

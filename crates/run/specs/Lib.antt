@@ -1,0 +1,10 @@
+pub mod Changes
+pub mod Choices
+pub mod Dispatches
+pub mod Guarding
+pub mod Messages
+pub mod Openings
+pub mod Playing
+pub mod Rules
+pub mod Runs
+pub mod Views

@@ -1,0 +1,4 @@
+pub mod Changes
+pub mod Consistent
+pub mod Outgoing
+pub mod States

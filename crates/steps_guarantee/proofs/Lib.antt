@@ -1,0 +1,4 @@
+pub mod Tallying
+pub mod Guaranteed
+pub mod Playing
+pub mod Excluded

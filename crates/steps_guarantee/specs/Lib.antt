@@ -1,0 +1,4 @@
+pub mod Numbers
+pub mod Guarantee
+pub mod WholeRuns
+pub mod WrongTools

@@ -1,0 +1,4 @@
+//! The guarantee of every run.
+#![tactic(auto)]
+
+pub mod runs;

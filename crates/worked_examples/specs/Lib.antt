@@ -1,0 +1,4 @@
+pub mod Computations
+pub mod Models
+pub mod Pairs
+pub mod Table
