@@ -1,5 +1,5 @@
 //! Loading a model: from bytes to an accepted model, or why there is none.
-ghost use Rattle.std.specs.Prelude.{◌≡◌, ℕ, List, Some};
+ghost use Rattle.std.specs.Prelude.{◌≡◌, ℕ, List, Some, IfOk};
 ghost use Rattle.tables.specs.Texts.{fault_text};
 ghost use Rattle.model.specs.Input.{Keeps, model_in};
 ghost use Rattle.loading.specs.declared.load.LoadFault.TheVariants.{Reading, Typing};
@@ -120,6 +120,7 @@ impl From<TypingError> for LoadError {
 pub fn load(heap: Global, bytes: Vec<u8>) -> Result<AcceptedModel, LoadError>
     ensures loads { Loads bytes.items result }
     ensures least { JudgesModel bytes.items result }
+    ensures moved { IfOk result (λ a. a.model.bytes ≡ bytes) }
 {
     let model = ReadModel::read(heap, bytes)?;
     check_types(heap, &model)?;

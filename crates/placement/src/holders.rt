@@ -118,7 +118,7 @@ pub(crate) fn reached(branches: &[BranchRow], x: NodeRow) -> usize
     ensures reach { result ≡ reach branches.now x }
     ensures within { x.reference + result ≤ max x.reference (length branches.now) }
 {
-    if NodeKind::try_from(x.kind) != Ok(NodeKind::Case) {
+    if !matches!(NodeKind::try_from(x.kind), Ok(NodeKind::Case)) {
         return 0;
     }
     branches.get(x.reference as usize..).map_or(0, run_length)

@@ -2,30 +2,22 @@ ghost use Rattle.std.specs.Prelude.{◌≡◌, ℕ, ◌≤◌, min, leb, List, �
 ghost use Rattle.std.specs.List.{list_any};
 ghost use Rattle.rules.specs.Uses.{function_uses, node_uses, branch_uses, statement_uses, object_uses, part_uses};
 
-use std::marker::Model;
 use tables::kinds::StatementKind;
 use tables::rows::{BranchRow, FunctionRow, NodeRow, StatementRow};
 
-/// The nodes that a row uses, at most five.
+/// The nodes that a row uses, at most five: the first `count` of these.
 // An array with a count, and no `ArrayVec`, which writes a blank over each node that it cuts off: every row is asked several times.
-#[derive(Drop)]
+// Without a model: one that sees the list does not give the fields back, which `Copy` asks for.
+#[derive(Clone, Copy)]
 pub struct Uses {
-    nodes: [u16; 5],
-    count: usize,
-}
-
-/// The first `count` nodes.
-impl Model for Uses {
-    ghost Value = { List ℕ };
-
-    ghost view = { λ u. take u.count u.nodes };
-
-    ghost invariant = { λ u. u.count ≤ 5 };
+    pub nodes: [u16; 5],
+    pub count: usize,
+    ghost few: { count ≤ 5 },
 }
 
 impl Uses {
     pub fn as_slice(&self) -> &[u16]
-        ensures nodes { result.now ≡ self.now }
+        ensures nodes { result.now ≡ take self.now.count self.now.nodes }
     {
         &self.nodes[..self.count]
     }
@@ -36,13 +28,13 @@ pub trait User: Copy {
     ghost uses: { Self → List ℕ };
 
     fn uses(self) -> Uses
-        ensures uses { result ≡ uses self };
+        ensures uses { take result.count result.nodes ≡ uses self };
 }
 
 /// The first `count` of these nodes.
 fn first_of(nodes: [u16; 5], count: usize) -> Uses
     requires few { count ≤ 5 }
-    ensures first { result ≡ take count nodes }
+    ensures first { take result.count result.nodes ≡ take count nodes }
 {
     Uses { nodes, count }
 }
@@ -79,13 +71,13 @@ impl User for NodeRow {
 }
 
 fn parts(x: StatementRow) -> Uses
-    ensures parts { result ≡ part_uses x }
+    ensures parts { take result.count result.nodes ≡ part_uses x }
 {
     first_of([x.p1, x.p2, x.p3, x.p4, 0], named(x.count))
 }
 
 fn object_and_parts(x: StatementRow) -> Uses
-    ensures called { result ≡ object_uses x ++ part_uses x }
+    ensures called { take result.count result.nodes ≡ object_uses x ++ part_uses x }
 {
     if x.object == 0 {
         return parts(x);

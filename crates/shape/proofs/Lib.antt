@@ -1,3 +1,4 @@
 mod Folds
+mod Prefixes
 mod Shared
 mod Tables

@@ -5,7 +5,8 @@ ghost use Rattle.shape.specs.Earliest.{lowered, earliest_from, AreEarliest};
 ghost use Rattle.tables.specs.Layout.{content};
 ghost use Rattle.rules.specs.Types.{same_type};
 ghost use Rattle.shape.specs.Shape.{type_shape, constructor_shape, signature_shape, not_interface, not_main, not_first, class_shape, not_plain, outside_method_shape, inside_method_shape, repeats_name, method_shape_in, method_shape_of, method_shape, shape_broken};
-ghost use Rattle.rules.specs.Faults.{fault_in, rule_fault, places};
+ghost use Rattle.rules.specs.Faults.{fault_in, table_fault, rule_fault, places};
+ghost use Rattle.tables.specs.declared.place.Table.TheVariants.{Signatures};
 ghost use Rattle.placement.specs.Holders.{method_classes};
 ghost use Rattle.rules.specs.Words.{at, part, between};
 ghost use Rattle.tables.specs.declared.place.TableRule.TheVariants.{Shape};
@@ -22,15 +23,21 @@ use tables::rows::{
 };
 use tables::tables::Tables;
 
-/// The rule over the tables of a model, with the class of each method, and for each signature the earliest that an interface holds
-/// together with it.
+/// The rule over the tables of a model, with the class of each method, and with what memory is taken from for the signatures.
 #[derive(Clone, Copy)]
 struct ShapeRule<'a> {
+    heap: Global,
     t: &'a Tables,
     classes: &'a [Option<Place>],
-    earliest: &'a [usize],
     ghost classes_held: { classes.now ≡ method_classes (content t.now) },
-    ghost earliest_held: { AreEarliest earliest.now (length (content t.now).signatures) (content t.now).interfaces },
+}
+
+/// The rule over the signatures, with the earliest that an interface holds together with each of the first of them: of all or of none.
+#[derive(Clone, Copy)]
+struct SignatureRule<'a> {
+    t: &'a Tables,
+    earliest: &'a [usize],
+    ghost earliest_held: { AreEarliest earliest.now (length earliest.now) (content t.now).interfaces },
 }
 
 /// Whether the type is this one, or was found before.
@@ -109,24 +116,23 @@ fn lower_held(earliest: &mut [usize], interface: InterfaceRow)
     }
 }
 
-/// For each signature the earliest one that an interface holds together with it, or itself.
+/// For each of the first signatures, so many of them, the earliest one that an interface holds together with it, or itself.
 // One look at each interface's own rows: a look at all interfaces for each signature would compare every pair.
-fn earliest_signatures(heap: Global, t: &Tables) -> Result<Vec<usize>, AllocError>
-    ensures earliest { IfOk result (λ v. AreEarliest v.items (length (content t.now).signatures) (content t.now).interfaces) }
+fn earliest_signatures(heap: Global, t: &Tables, rows: usize) -> Result<Vec<usize>, AllocError>
+    ensures earliest { IfOk result (λ v. AreEarliest v.items rows (content t.now).interfaces) }
 {
-    let mut earliest: Vec<usize> = (0..t.signatures.len()).collect(heap)?;
+    let mut earliest: Vec<usize> = (0..rows).collect(heap)?;
     for interface in &t.interfaces {
         lower_held(&mut earliest, *interface);
     }
     Ok(earliest)
 }
 
-impl ShapeRule<'_> {
+impl SignatureRule<'_> {
     /// The earliest signature that an interface holds together with this one, or this one.
     fn earliest_of(&self, row: usize) -> usize
         ensures earliest { result ≡ earliest_from row row (content self.now.t.now).interfaces }
     {
-        // for a row that is not there, which is never asked, it is looked for among the interfaces
         self.earliest
             .get(row)
             .copied()
@@ -144,13 +150,46 @@ fn named_between(t: &Tables, first: usize, row: usize, name: u16) -> bool
         .any(|y| y.name == name)
 }
 
-impl RowTest<SignatureRow> for ShapeRule<'_> {
+impl RowTest<SignatureRow> for SignatureRule<'_> {
     ghost broken = { λ s r x. signature_shape (content s.t.now) r x };
 
     fn breaks(&self, row: usize, x: SignatureRow) -> bool {
         let first = self.earliest_of(row);
         named_between(self.t, first, row, x.name)
     }
+}
+
+/// The first among the first signatures, so many of them, that breaks the rule.
+fn fault_among(heap: Global, t: &Tables, rows: usize) -> Option<Fault<TableRule>>
+    ensures first { result ≡ table_fault (take rows (content t.now).signatures) (signature_shape (content t.now)) Shape Signatures }
+{
+    let (rule, table) = (TableRule::Shape, Table::Signatures);
+    let signatures = part(&t.signatures, 0, rows);
+    match earliest_signatures(heap, t, rows) {
+        Ok(earliest) => {
+            let earliest = earliest.as_slice();
+            first_row(signatures, &SignatureRule { t, earliest }, rule, table)
+        }
+        Err(_) => first_row(signatures, &SignatureRule { t, earliest: &[] }, rule, table),
+    }
+}
+
+/// How many signatures are asked before the others.
+const FIRST: usize = 32;
+
+/// The first signature that breaks the rule.
+// The interfaces are looked at only here, and so not for a fault of the types or of the constructors, which comes before; and only
+// as far as the first rows, where one of these breaks the rule.
+fn signature_fault(heap: Global, t: &Tables) -> Option<Fault<TableRule>>
+    ensures first { result ≡ table_fault (content t.now).signatures (signature_shape (content t.now)) Shape Signatures }
+{
+    let all = t.signatures.len();
+    if all > FIRST {
+        if let Some(fault) = fault_among(heap, t, FIRST) {
+            return Some(fault);
+        }
+    }
+    fault_among(heap, t, all)
 }
 
 // Not one function with `not_plain`: over the question it would have to say in its contract which definition that computes.
@@ -277,7 +316,7 @@ impl Tablewise for ShapeRule<'_> {
         match table {
             Table::Types => first_row(&self.t.types, self, rule, table),
             Table::Constructors => first_row(&self.t.constructors, self, rule, table),
-            Table::Signatures => first_row(&self.t.signatures, self, rule, table),
+            Table::Signatures => signature_fault(self.heap, self.t),
             // class 0 has to be there
             Table::Classes if self.t.classes.is_empty() => Some(Fault {
                 rule,
@@ -302,10 +341,9 @@ pub fn first_fault(heap: Global, t: &Tables) -> Result<Option<Fault<TableRule>>,
     ensures first { IfOk result (λ v. v ≡ rule_fault Shape (shape_broken (content t.now)) (places (content t.now))) }
 {
     let classes = method_classes(heap, t)?;
-    let earliest = earliest_signatures(heap, t)?;
     Ok(first_table(&ShapeRule {
+        heap,
         t,
         classes: &classes,
-        earliest: &earliest,
     }))
 }
