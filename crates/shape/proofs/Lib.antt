@@ -1,4 +1,4 @@
+mod Earliest
 mod Folds
-mod Prefixes
 mod Shared
 mod Tables

@@ -1,17 +1,22 @@
 -- A name that an interface holds twice: one look at the rows from the earliest on answers for all interfaces.
-use Rattle.std.proofs.Common.{◌≡◌, ℕ, ◌+◌, ◌-◌, ◌≤◌, min, Bool, ◌||◌, eqb, ltb, leb, List, [], ◌∷◌, take, drop, sym, refl, ◌∙◌, inl, inr, arith}
+use Rattle.std.proofs.Common.{◌≡◌, ℕ, ◌+◌, ◌-◌, ◌≤◌, ◌<◌, min, Bool, true, false, ◌||◌, eqb, ltb, leb, List, [], ◌∷◌, length, get_or, take, drop, Some, None, Option, sym, refl, ◌∙◌, inl, inr, arith}
 use Rattle.std.proofs.lemmas.List.{drop-drop}
 use Rattle.std.proofs.lemmas.List.Folds.{list_any-append}
 use Rattle.std.proofs.Math.Seq.{take-add}
 use Rattle.std.proofs.Math.Bool.{or-false}
 use Rattle.std.proofs.lemmas.Bool.{cases_Bool, cases_lt, and_parts, leb-true}
-use Rattle.std.specs.List.{list_any}
+use Rattle.std.specs.List.{list_any, slice_get}
 use Rattle.tables.specs.declared.rows.InterfaceRow.{InterfaceRow}
 use Rattle.tables.specs.declared.rows.SignatureRow.{SignatureRow}
+use Rattle.tables.specs.declared.place.Table.TheVariants.{Signatures}
+use Rattle.tables.specs.declared.place.TableRule.TheVariants.{Shape}
 use Rattle.tables.specs.Layout.{Content}
-use Rattle.rules.specs.Words.{between}
+use Rattle.tables.specs.Least.{fault, first_below}
+use Rattle.rules.specs.Faults.{row_fault, places}
+use Rattle.rules.specs.Words.{between, passes}
+use Rattle.rules.proofs.Searches.{row_passes, row_breaks, unasked}
 use Rattle.shape.specs.Earliest.{holds_row, earliest_from}
-use Rattle.shape.specs.Shape.{shares_name, signature_shape}
+use Rattle.shape.specs.Shape.{shares_name, signature_shape, signature_fault, shape_broken}
 
 -- Bools.
 before : (a b : Bool) → (a || (b || a)) ≡ (b || a)
@@ -68,3 +73,28 @@ module _ (m : Content) (r : ℕ) (x : SignatureRow) where
   signature_judged =
       let none : r - r ≡ 0 = omega arith in
       sym (rw none at (shared r m.interfaces (omega arith))) ∙ or-false _
+
+-- without interfaces no signature breaks the rule
+never : {A : Type 0} (o : Option A) → passes o (λ x. false) ≡ false
+never None = refl
+never (Some x) = refl
+
+pub unasked_signatures : (m : Content) → m.interfaces ≡ [] → None ≡ signature_fault m
+unasked_signatures m e = unasked Shape (shape_broken m) (places m) Signatures (λ r. rw (e, never (slice_get m.signatures r)))
+
+-- no signature before this row breaks the rule
+abbrev pub NoneBefore : Content → ℕ → Type 0
+NoneBefore m r = first_below (row_fault m.signatures (signature_shape m) Shape Signatures) r ≡ None
+
+-- one signature, of which it is found whether one from the earliest on has its name
+module _ (m : Content) (r first : ℕ) (found : Bool) (x : SignatureRow) (least : first ≡ earliest_from r r m.interfaces)
+    (named : found ≡ list_any (λ y. eqb y.name x.name) (between first r m.signatures))
+    (there : r < length m.signatures) (e : x ≡ get_or m.signatures r x) (none : NoneBefore m r) where
+  judged : found ≡ signature_shape m r x
+  judged = named ∙ rw least (signature_judged m r x)
+
+  pub signature_passes : found ≡ false → NoneBefore m (r + 1)
+  signature_passes miss = row_passes m.signatures (signature_shape m) (fault Shape Signatures) r x there e none (sym miss ∙ judged)
+
+  pub signature_breaks : found ≡ true → Some (fault Shape Signatures r) ≡ signature_fault m
+  signature_breaks hit = row_breaks m.signatures (signature_shape m) (fault Shape Signatures) r x there e none (sym hit ∙ judged)

@@ -1,9 +1,12 @@
 -- Rule 5, Shape: types, names, defaults, classes and methods. Each test is true of a row that breaks it.
 use Rattle.std.specs.Prelude.{ℕ, ◌+◌, Bool, true, false, cond, not, ◌&&◌, ◌||◌, List, [], ◌∷◌, take, Some, None, Option, ◌==◌, nat_eq, nat_le, nat_lt, slice_index_or}
 use Rattle.std.specs.List.{list_any}
+use Rattle.tables.specs.declared.place.Fault.{Fault}
 use Rattle.tables.specs.declared.place.Place.{Place}
 use Rattle.tables.specs.declared.place.Table.{Table}
 use Rattle.tables.specs.declared.place.Table.TheVariants as table
+use Rattle.tables.specs.declared.place.TableRule.{TableRule}
+use Rattle.tables.specs.declared.place.TableRule.TheVariants.{Shape}
 use Rattle.tables.specs.declared.rows.TypeRow.{TypeRow}
 use Rattle.tables.specs.declared.rows.ListRow.{ListRow}
 use Rattle.tables.specs.declared.rows.ConstructorRow.{ConstructorRow}
@@ -12,6 +15,7 @@ use Rattle.tables.specs.declared.rows.SignatureRow.{SignatureRow}
 use Rattle.tables.specs.declared.rows.ClassRow.{ClassRow}
 use Rattle.tables.specs.declared.rows.MethodRow.{MethodRow}
 use Rattle.tables.specs.Layout.{Content}
+use Rattle.rules.specs.Faults.{table_fault}
 use Rattle.rules.specs.Words.{at, part, between}
 use Rattle.rules.specs.Types.{same_type, is_unit, is_plain, is_interface}
 use Rattle.placement.specs.Holders.{Holders, method_classes}
@@ -31,6 +35,9 @@ shares_name m r x i = nat_le i.first r && nat_lt r (i.first + i.count)
 
 abbrev pub signature_shape : Content → ℕ → SignatureRow → Bool
 signature_shape m r x = list_any (shares_name m r x) m.interfaces
+
+abbrev pub signature_fault : Content → Option (Fault TableRule)
+signature_fault m = table_fault m.signatures (signature_shape m) Shape table.Signatures
 
 -- an outside class, by its flag
 abbrev pub is_outside_class : ClassRow → Bool

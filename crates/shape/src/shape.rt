@@ -1,12 +1,11 @@
 //! Rule 5, Shape: whether types, names, defaults, classes and methods have their shape.
-ghost use Rattle.std.specs.Prelude.{◌≡◌, ℕ, ◌<◌, Bool, true, false, ◌||◌, fold, length, take, IfOk, None, ◌==◌, nat_eq, slice_index};
+ghost use Rattle.std.specs.Prelude.{◌≡◌, ℕ, ◌<◌, ◌≤◌, Bool, true, false, ◌||◌, fold, length, take, IfOk, IfSome, ◌==◌, nat_eq, slice_index};
 ghost use Rattle.std.specs.List.{list_any};
-ghost use Rattle.shape.specs.Earliest.{lowered, earliest_from, AreEarliest};
+ghost use Rattle.shape.specs.Earliest.{lowered, earliest_from, AreEnds};
 ghost use Rattle.tables.specs.Layout.{content};
 ghost use Rattle.rules.specs.Types.{same_type};
-ghost use Rattle.shape.specs.Shape.{type_shape, constructor_shape, signature_shape, not_interface, not_main, not_first, class_shape, not_plain, outside_method_shape, inside_method_shape, repeats_name, method_shape_in, method_shape_of, method_shape, shape_broken};
-ghost use Rattle.rules.specs.Faults.{fault_in, table_fault, rule_fault, places};
-ghost use Rattle.tables.specs.declared.place.Table.TheVariants.{Signatures};
+ghost use Rattle.shape.specs.Shape.{type_shape, constructor_shape, signature_fault, not_interface, not_main, not_first, class_shape, not_plain, outside_method_shape, inside_method_shape, repeats_name, method_shape_in, method_shape_of, method_shape, shape_broken};
+ghost use Rattle.rules.specs.Faults.{fault_in, rule_fault, places};
 ghost use Rattle.placement.specs.Holders.{method_classes};
 ghost use Rattle.rules.specs.Words.{at, part, between};
 ghost use Rattle.tables.specs.declared.place.TableRule.TheVariants.{Shape};
@@ -30,14 +29,6 @@ struct ShapeRule<'a> {
     t: &'a Tables,
     classes: &'a [Option<Place>],
     ghost classes_held: { classes.now ≡ method_classes (content t.now) },
-}
-
-/// The rule over the signatures, with the earliest that an interface holds together with each of the first of them: of all or of none.
-#[derive(Clone, Copy)]
-struct SignatureRule<'a> {
-    t: &'a Tables,
-    earliest: &'a [usize],
-    ghost earliest_held: { AreEarliest earliest.now (length earliest.now) (content t.now).interfaces },
 }
 
 /// Whether the type is this one, or was found before.
@@ -103,41 +94,38 @@ fn earliest(interfaces: &[InterfaceRow], row: usize) -> usize
         .fold(row, |low, interface| lowered(low, row, *interface))
 }
 
-/// Lowers the entry of each row that the interface holds.
-fn lower_held(earliest: &mut [usize], interface: InterfaceRow)
-    ensures long { length earliest.new ≡ length earliest.old }
-    ensures lowered { (r : ℕ) → r < length earliest.old → slice_index earliest.new r ≡ lowered r (slice_index earliest.old r) interface }
+/// For each signature, where the longest interface that begins with it ends; 0 where none begins with it.
+fn latest_ends(heap: Global, t: &Tables) -> Result<Vec<usize>, AllocError>
+    ensures ends { IfOk result (λ v. AreEnds v.items (content t.now)) }
 {
-    let first = interface.first as usize;
-    let end = earliest.len().min(first + interface.count as usize);
-    // by the row: of what is written through `iter_mut` nothing is known afterwards
-    for row in first..end {
-        earliest[row] = lowered(earliest[row], row, interface);
-    }
-}
-
-/// For each of the first signatures, so many of them, the earliest one that an interface holds together with it, or itself.
-// One look at each interface's own rows: a look at all interfaces for each signature would compare every pair.
-fn earliest_signatures(heap: Global, t: &Tables, rows: usize) -> Result<Vec<usize>, AllocError>
-    ensures earliest { IfOk result (λ v. AreEarliest v.items rows (content t.now).interfaces) }
-{
-    let mut earliest: Vec<usize> = (0..rows).collect(heap)?;
+    let mut ends = vec![in heap; 0; t.signatures.len()]?;
     for interface in &t.interfaces {
-        lower_held(&mut earliest, *interface);
+        let first = interface.first as usize;
+        if first < ends.len() {
+            // by its index: the contract of `get_mut` does not say what the slice holds after a write
+            ends[first] = ends[first].max(first + interface.count as usize);
+        }
     }
-    Ok(earliest)
+    Ok(ends)
 }
 
-impl SignatureRule<'_> {
-    /// The earliest signature that an interface holds together with this one, or this one.
-    fn earliest_of(&self, row: usize) -> usize
-        ensures earliest { result ≡ earliest_from row row (content self.now.t.now).interfaces }
-    {
-        self.earliest
-            .get(row)
-            .copied()
-            .unwrap_or_else(|| earliest(&self.t.interfaces, row))
+/// The earliest signature that an interface holds together with this one, or this one; none before `first` is the earliest.
+fn earliest_since(t: &Tables, ends: Option<&[usize]>, first: usize, row: usize) -> usize
+    requires there { row < length (content t.now).signatures }
+    requires ends { IfSome ends (λ v. AreEnds v.now (content t.now)) }
+    requires passed { first ≤ earliest_from row row (content t.now).interfaces }
+    ensures earliest { result ≡ earliest_from row row (content t.now).interfaces }
+{
+    let Some(ends) = ends else {
+        // without memory, a look at each interface
+        return earliest(&t.interfaces, row);
+    };
+    for earlier in first..row {
+        if ends[earlier] > row {
+            return earlier;
+        }
     }
+    row
 }
 
 /// Whether a signature before this row, from the first of these on, has this name.
@@ -150,46 +138,28 @@ fn named_between(t: &Tables, first: usize, row: usize, name: u16) -> bool
         .any(|y| y.name == name)
 }
 
-impl RowTest<SignatureRow> for SignatureRule<'_> {
-    ghost broken = { λ s r x. signature_shape (content s.t.now) r x };
-
-    fn breaks(&self, row: usize, x: SignatureRow) -> bool {
-        let first = self.earliest_of(row);
-        named_between(self.t, first, row, x.name)
-    }
-}
-
-/// The first among the first signatures, so many of them, that breaks the rule.
-fn fault_among(heap: Global, t: &Tables, rows: usize) -> Option<Fault<TableRule>>
-    ensures first { result ≡ table_fault (take rows (content t.now).signatures) (signature_shape (content t.now)) Shape Signatures }
-{
-    let (rule, table) = (TableRule::Shape, Table::Signatures);
-    let signatures = part(&t.signatures, 0, rows);
-    match earliest_signatures(heap, t, rows) {
-        Ok(earliest) => {
-            let earliest = earliest.as_slice();
-            first_row(signatures, &SignatureRule { t, earliest }, rule, table)
-        }
-        Err(_) => first_row(signatures, &SignatureRule { t, earliest: &[] }, rule, table),
-    }
-}
-
-/// How many signatures are asked before the others.
-const FIRST: usize = 32;
-
 /// The first signature that breaks the rule.
-// The interfaces are looked at only here, and so not for a fault of the types or of the constructors, which comes before; and only
-// as far as the first rows, where one of these breaks the rule.
+// One look at each interface: a look at all of them for each signature would compare every pair.
 fn signature_fault(heap: Global, t: &Tables) -> Option<Fault<TableRule>>
-    ensures first { result ≡ table_fault (content t.now).signatures (signature_shape (content t.now)) Shape Signatures }
+    ensures first { result ≡ signature_fault (content t.now) }
 {
-    let all = t.signatures.len();
-    if all > FIRST {
-        if let Some(fault) = fault_among(heap, t, FIRST) {
-            return Some(fault);
+    if t.interfaces.is_empty() {
+        return None;
+    }
+    let ends = latest_ends(heap, t).ok();
+    let ends = ends.as_deref();
+    let mut first = 0;
+    for (row, x) in t.signatures.iter().enumerate() {
+        first = earliest_since(t, ends, first, row);
+        if named_between(t, first, row, x.name) {
+            return Some(Fault {
+                rule: TableRule::Shape,
+                table: Table::Signatures,
+                row,
+            });
         }
     }
-    fault_among(heap, t, all)
+    None
 }
 
 // Not one function with `not_plain`: over the question it would have to say in its contract which definition that computes.
