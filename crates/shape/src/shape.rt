@@ -1,5 +1,5 @@
 //! Rule 5, Shape: whether types, names, defaults, classes and methods have their shape.
-ghost use Rattle.std.specs.Prelude.{◌≡◌, ℕ, ◌<◌, ◌≤◌, Bool, true, false, ◌||◌, fold, length, take, IfOk, IfSome, ◌==◌, nat_eq, slice_index};
+ghost use Rattle.std.specs.Prelude.{◌≡◌, ◌<◌, ◌≤◌, true, false, ◌||◌, fold, length, take, IfOk, IfSome, ◌==◌, nat_eq};
 ghost use Rattle.std.specs.List.{list_any};
 ghost use Rattle.shape.specs.Earliest.{lowered, earliest_from, AreEnds};
 ghost use Rattle.tables.specs.Layout.{content};
@@ -109,7 +109,7 @@ fn latest_ends(heap: Global, t: &Tables) -> Result<Vec<usize>, AllocError>
     Ok(ends)
 }
 
-/// The earliest signature that an interface holds together with this one, or this one; none before `first` is the earliest.
+/// What `earliest` answers, where that is none before `first`, by where the interfaces end.
 fn earliest_since(t: &Tables, ends: Option<&[usize]>, first: usize, row: usize) -> usize
     requires there { row < length (content t.now).signatures }
     requires ends { IfSome ends (λ v. AreEnds v.now (content t.now)) }
@@ -117,7 +117,6 @@ fn earliest_since(t: &Tables, ends: Option<&[usize]>, first: usize, row: usize) 
     ensures earliest { result ≡ earliest_from row row (content t.now).interfaces }
 {
     let Some(ends) = ends else {
-        // without memory, a look at each interface
         return earliest(&t.interfaces, row);
     };
     for earlier in first..row {
@@ -139,18 +138,22 @@ fn named_between(t: &Tables, first: usize, row: usize, name: u16) -> bool
 }
 
 /// The first signature that breaks the rule.
-// One look at each interface: a look at all of them for each signature would compare every pair.
+// A look at all interfaces for each signature would compare every pair: where there are many, one look at each tells where it ends.
 fn signature_fault(heap: Global, t: &Tables) -> Option<Fault<TableRule>>
     ensures first { result ≡ signature_fault (content t.now) }
 {
     if t.interfaces.is_empty() {
         return None;
     }
-    let ends = latest_ends(heap, t).ok();
-    let ends = ends.as_deref();
+    // so many looks at all interfaces cost what it costs to find where they end, with 64 for the memory
+    let looks = t.signatures.len().saturating_add(64) / t.interfaces.len() + 2;
+    let mut ends = None;
     let mut first = 0;
     for (row, x) in t.signatures.iter().enumerate() {
-        first = earliest_since(t, ends, first, row);
+        if row == looks {
+            ends = latest_ends(heap, t).ok();
+        }
+        first = earliest_since(t, ends.as_deref(), first, row);
         if named_between(t, first, row, x.name) {
             return Some(Fault {
                 rule: TableRule::Shape,

@@ -22,4 +22,5 @@ loop-row-preserved c =
     let r = c.loop-row.row in (
       search (rules, signature_passes m r c.earliest_since-first.result c.named_between.result),
       rw c.earliest_since-first.ensures.earliest (moves_on r (r + 1) r m.interfaces (omega arith) (omega arith)),
+      search rules,
     )
